@@ -1,0 +1,10 @@
+pub mod Pieces
+pub mod Machine
+pub mod Progress
+pub mod Plain
+pub mod Codes
+pub mod Found
+pub mod States
+pub mod Leads
+pub mod View
+pub mod Sound
