@@ -1,0 +1,4 @@
+pub mod PlainLaws
+pub mod Names
+pub mod Nodes
+pub mod Sessions
