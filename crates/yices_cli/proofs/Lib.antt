@@ -1,0 +1,4 @@
+pub mod Growing
+pub mod Replying
+pub mod Texts
+pub mod Endings
