@@ -1,0 +1,14 @@
+pub mod Ring
+pub mod RingZ
+pub mod Rationals
+pub mod RingQ
+pub mod LawsQ
+pub mod FieldQ
+pub mod Linear
+pub mod OrderQ
+pub mod Finder
+pub mod CompareQ
+pub mod OrderedFieldQ
+pub mod ListQ
+pub mod Delta
+pub mod Examples
