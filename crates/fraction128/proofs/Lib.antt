@@ -1,0 +1,4 @@
+pub mod Parts
+pub mod Exactly
+pub mod Narrow
+pub mod Turns
