@@ -1,0 +1,10 @@
+pub mod Gets
+pub mod Places
+pub mod Events
+pub mod Members
+pub mod UserLists
+pub mod Histories
+pub mod Entries
+pub mod Graphs
+pub mod Explanations
+pub mod Answers
