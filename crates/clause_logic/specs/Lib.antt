@@ -1,0 +1,4 @@
+pub mod Bound
+pub mod Clauses
+pub mod Laws
+pub mod Trails
