@@ -1,0 +1,16 @@
+pub mod Attaching
+pub mod Backs
+pub mod Completing
+pub mod Cores
+pub mod Counts
+pub mod Growing
+pub mod Keeping
+pub mod Lowering
+pub mod Marking
+pub mod Moving
+pub mod Resolving
+pub mod Rows
+pub mod Seeking
+pub mod Settling
+pub mod Trails
+pub mod Turning

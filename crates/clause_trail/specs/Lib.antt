@@ -1,0 +1,6 @@
+pub mod Analysis
+pub mod Changes
+pub mod Levels
+pub mod Steps
+pub mod View
+pub mod Words
