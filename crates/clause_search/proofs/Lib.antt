@@ -1,0 +1,4 @@
+pub mod Layers
+pub mod Loads
+pub mod Rounding
+pub mod Takes

@@ -1,0 +1,28 @@
+use Rattle.std.proofs.Common.{ℕ, List, ◌<◌, ◌≡◌, ◌∙◌, ap, sym, subst, length, arith}
+use Rattle.clause_logic.specs.declared.Lit.{Lit}
+use Rattle.clause_logic.specs.Clauses.{In}
+use Rattle.clause_trail.specs.View.{lists_of}
+use Rattle.clause_search.specs.Content.{Stacked}
+use Rattle.clause_search.specs.Loading.{IsRoot, Impossible, Loads}
+use Rattle.clause_search.specs.Answers.{IsUnsatCore}
+use Rattle.clause_search.specs.Solving.{Going}
+use Rattle.clause_search.specs.declared.loading.Loaded.TheVariants as loaded
+use Rattle.clause_search.proofs.Loads.{root_going, impossible_core}
+use Rattle.clause_search.proofs.search.Search.answer.Goals as goal
+
+pub run-requires-clause-going : goal.run-requires-clause-going
+run-requires-clause-going g c =
+    let root : IsRoot (lists_of c.in-Ready.state) c.len-vars.result c.deref.result.now = subst (Loads c.len-vars.result c.deref.result.now) c.in-Ready.is c.in_ok-load.ensures in
+    subst (λ (cs : List (List Lit)). Going (lists_of c.in-Ready.state) cs (g.C.Checker.stands c.args.checker.now) c.args.assumed.now) (c.deref.ensures.value ∙ sym c.deref-in-Ready.ensures.value)
+    (root_going (lists_of c.in-Ready.state) c.len-vars.result c.deref.result.now (g.C.Checker.stands c.args.checker.now) c.args.assumed.now root)
+
+pub run-requires-clause-known : goal.run-requires-clause-known
+run-requires-clause-known g c = λ m i.
+    let root : IsRoot (lists_of c.in-Ready.state) c.len-vars.result c.deref.result.now = subst (Loads c.len-vars.result c.deref.result.now) c.in-Ready.is c.in_ok-load.ensures in
+    omega (arith, c.requires.known m i, ap (λ (o : Stacked). o.content.vars) c.self.view_is, c.len-vars.ensures, c.self.inside.phases.ok.0, root.vars)
+
+pub returns-in-Refuted-clause-justified : goal.returns-in-Refuted-clause-justified
+returns-in-Refuted-clause-justified g c =
+    let none : Impossible c.deref.result.now = subst (Loads c.len-vars.result c.deref.result.now) c.in-Refuted.is c.in_ok-load.ensures in
+    subst (λ (cs : List (List Lit)). IsUnsatCore cs (g.C.Checker.stands c.args.checker.now) c.args.assumed.now c.new.result) (c.deref.ensures.value ∙ ap (λ (o : Stacked). o.content.clauses) c.self.view_is)
+    (impossible_core c.deref.result.now (g.C.Checker.stands c.args.checker.now) c.args.assumed.now c.new.result none c.new.ensures)

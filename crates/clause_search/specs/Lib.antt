@@ -1,0 +1,5 @@
+pub mod Answers
+pub mod Content
+pub mod Layout
+pub mod Loading
+pub mod Solving
