@@ -1,9 +1,9 @@
--- The commands of the language, and the tokens that spell them.
-use Rattle.std.specs.Prelude.{◌≡◌, ℕ, Bool, true, false, not, ◌&&◌, ◌||◌, ◌==◌, List, [], ◌∷◌, ◌++◌, nat_le, codes, ◌⊎◌}
+-- The commands that are built so far, and the tokens that spell them.
+use Rattle.std.specs.Prelude.{◌≡◌, ℕ, Bool, true, false, not, ◌&&◌, ◌||◌, ◌==◌, List, [], ◌∷◌, ◌++◌, nat_le, codes}
 use Rattle.std.specs.List.{list_any}
 use Rattle.std.specs.Str.{bytes_eq}
 use Rattle.yices_grammar.specs.declared.Place.{Place}
-use Rattle.yices_grammar.specs.Tokens.{open_bracket, close_bracket, typing_mark, word, Token, begins_with}
+use Rattle.yices_grammar.specs.Tokens.{open_bracket, close_bracket, typing_mark, word, string, Token, begins_with, content_bytes}
 
 -- an expression as it was written, with the place of its first byte
 mutual
@@ -17,11 +17,24 @@ mutual
     none : Exprs
     more : Expr → Exprs → Exprs
 
--- what a command does: declares a name of a type, asserts a formula, or checks
+-- the expressions as arguments
+abbrev pub exprs : List Expr → Exprs
+exprs [] = none
+exprs (e ∷ es) = more e (exprs es)
+
+-- what a command does; a declaration has the place of the type, and `echo` the bytes that its string stands for
 pub data Action : Type 0 where
   declare : List ℕ → Place → Action
+  define : List ℕ → Place → Expr → Action
   assert : Expr → Action
   check : Action
+  push : Action
+  pop : Action
+  reset : Action
+  show_model : Action
+  eval : Expr → Action
+  echo : List ℕ → Action
+  exit : Action
 
 -- a command, with the place of its opening bracket
 pub record Command : Type 0 where
@@ -57,13 +70,11 @@ begins_as_literal (b ∷ bs) = is_digit b || ((b == 43 || b == 45) && begins_wit
 abbrev pub is_name : List ℕ → Bool
 is_name w = not (begins_as_literal w) && not (is_among term_words w)
 
--- the operator takes these arguments: `not` one, `and` and `or` one or more
-abbrev pub Takes : List ℕ → Exprs → Type 0
-Takes op none = ⊥
-Takes op (more e none) = (op ≡ codes "not") ⊎ (op ≡ codes "and") ⊎ (op ≡ codes "or")
-Takes op (more e (more f es)) = (op ≡ codes "and") ⊎ (op ≡ codes "or")
+-- the operators that are built so far
+abbrev pub built_operators : List (List ℕ)
+built_operators = codes "not" ∷ codes "and" ∷ codes "or" ∷ []
 
--- a token of a word, and the bracket tokens
+-- a token of a word
 abbrev pub word_at : Place → List ℕ → Token
 word_at at w = record { place = at; lexeme = word w }
 
@@ -74,6 +85,10 @@ opened_at at = record { place = at; lexeme = open_bracket }
 -- a closing bracket
 abbrev pub closed_at : Place → Token
 closed_at at = record { place = at; lexeme = close_bracket }
+
+-- a string
+abbrev pub string_at : Place → List ℕ → Token
+string_at at s = record { place = at; lexeme = string s }
 
 -- a typing mark
 abbrev pub typing_at : Place → Token
@@ -86,7 +101,7 @@ unfoldable mutual
   Spells (false_word at) ts = ts ≡ word_at at (codes "false") ∷ []
   Spells (name at w) ts = (is_name w ≡ true) × (ts ≡ word_at at w ∷ [])
   Spells (operation at op es) ts =
-      (op_at close_at : Place) × (inner : List Token) × Takes op es × SpellsAll es inner
+      (op_at close_at : Place) × (inner : List Token) × (is_among built_operators op ≡ true) × SpellsAll es inner
       × (ts ≡ opened_at at ∷ word_at op_at op ∷ inner ++ closed_at close_at ∷ [])
 
   pub SpellsAll : Exprs → List Token → Type 0
@@ -98,8 +113,18 @@ abbrev pub SpellsAction : Action → List Token → Type 0
 SpellsAction (declare w type_at) ts =
     (at name_at mark_at : Place) × (is_name w ≡ true)
     × (ts ≡ word_at at (codes "define") ∷ word_at name_at w ∷ typing_at mark_at ∷ word_at type_at (codes "bool") ∷ [])
+SpellsAction (define w type_at e) ts =
+    (at name_at mark_at : Place) × (inner : List Token) × (is_name w ≡ true) × Spells e inner
+    × (ts ≡ word_at at (codes "define") ∷ word_at name_at w ∷ typing_at mark_at ∷ word_at type_at (codes "bool") ∷ inner)
 SpellsAction (assert e) ts = (at : Place) × (inner : List Token) × Spells e inner × (ts ≡ word_at at (codes "assert") ∷ inner)
 SpellsAction check ts = (at : Place) × (ts ≡ word_at at (codes "check") ∷ [])
+SpellsAction push ts = (at : Place) × (ts ≡ word_at at (codes "push") ∷ [])
+SpellsAction pop ts = (at : Place) × (ts ≡ word_at at (codes "pop") ∷ [])
+SpellsAction reset ts = (at : Place) × (ts ≡ word_at at (codes "reset") ∷ [])
+SpellsAction show_model ts = (at : Place) × (ts ≡ word_at at (codes "show-model") ∷ [])
+SpellsAction (eval e) ts = (at : Place) × (inner : List Token) × Spells e inner × (ts ≡ word_at at (codes "eval") ∷ inner)
+SpellsAction (echo bytes) ts = (at text_at : Place) × (s : List ℕ) × (bytes ≡ content_bytes s) × (ts ≡ word_at at (codes "echo") ∷ string_at text_at s ∷ [])
+SpellsAction exit ts = (at : Place) × (ts ≡ word_at at (codes "exit") ∷ [])
 
 -- the tokens spell the command
 abbrev pub SpellsCommand : Command → List Token → Type 0
