@@ -1,6 +1,6 @@
 -- What a text begins with.
-use Rattle.std.proofs.Common.{◌≡◌, ◌∙◌, ℕ, zero, suc, ◌+◌, ◌-◌, ◌<◌, ◌≤◌, Bool, true, false, not, ◌&&◌, cond, get_or, Option, Some, None, List, [], ◌∷◌, ◌++◌, length, take, drop, refl, sym, ap, subst, inl, inr, ◌⊎◌, ⊎_elim, arith, append_assoc, Bor, one-add, ltb}
-use Rattle.yices_text.proofs.Cutting.{cut_word}
+use Rattle.std.proofs.Common.{◌≡◌, ◌∙◌, ℕ, zero, suc, ◌+◌, ◌-◌, ◌<◌, ◌≤◌, Bool, true, false, not, ◌&&◌, ◌||◌, cond, get_or, Option, Some, None, List, [], ◌∷◌, ◌++◌, length, take, drop, refl, sym, ap, subst, inl, inr, ◌⊎◌, ⊎_elim, arith, append_assoc, Bor, one-add, ltb}
+use Rattle.yices_text.proofs.Cutting.{cut_word, cond_yes, cond_no, or_from}
 use Rattle.std.specs.Prelude.{◌==◌}
 use Rattle.std.specs.List.{list_all, prefix_len}
 use Rattle.std.specs.Str.{IsUtf8}
@@ -8,8 +8,9 @@ use Rattle.std.proofs.lemmas.Bool.{and_parts, and_from, cases_Bool, ne_eqb, ltb-
 use Rattle.std.proofs.lemmas.List.{drop_all, take-append-drop, length-take-le, take_rest}
 use Rattle.std.proofs.lemmas.List.Sums.{prefix_len-le-length}
 use Rattle.std.proofs.lemmas.Str.{IsUtf8-from_ascii}
-use Rattle.yices_grammar.specs.Tokens.{word, white, comment, token, IsRun, is_white, is_mark, is_word_byte, is_in_line, begins_with}
-use Rattle.yices_text.specs.Pieces.{first_cut, GoesOn}
+use Rattle.yices_grammar.specs.Tokens.{word, white, comment, token, IsRun, is_white, is_mark, is_word_byte, is_in_line, begins_with, GoesOn}
+use Rattle.yices_grammar.specs.Faults.{begins_nothing}
+use Rattle.yices_text.specs.Pieces.{first_cut, break_of}
 use Rattle.yices_text.specs.Found.{IsFound}
 use Rattle.yices_text.specs.declared.lexer.Lexeme.TheVariants as lexeme
 use Rattle.yices_text.specs.declared.lexer.Found.TheVariants as found
@@ -72,22 +73,22 @@ mark_found finished (b ∷ c ∷ bs) h k j =
     record { bytes = ap (λ x. x ∷ 58 ∷ []) (sym k) ∙ ap (λ x. b ∷ x ∷ []) (sym j); within = omega arith; some = omega arith; firm = λ more g. (bs ++ more, ap (λ x. x ∷ c ∷ (bs ++ more)) k ∙ ap (λ x. 58 ∷ x ∷ (bs ++ more)) j, tt, refl) }
 
 pub mark_open : (text : List ℕ) → length text ≡ 1 → get_or text 0 0 ≡ 58 → IsFound false text found.Open
-unfolding first_cut
+unfolding first_cut break_of
 mark_open [] h k = absurd (omega (arith, h))
-mark_open (b ∷ []) h k = (refl, inl (ap (λ x. first_cut (x ∷ [])) k))
+mark_open (b ∷ []) h k = (refl, inl (ap (λ x. first_cut (x ∷ [])) k, ap (λ x. break_of false (x ∷ [])) k))
 mark_open (b ∷ c ∷ bs) h k = absurd (omega (arith, h))
 
-pub mark_alone : (text : List ℕ) → length text ≡ 1 → get_or text 0 0 ≡ 58 → IsFound true text found.Fault
-unfolding first_cut
-mark_alone [] h k more g = absurd (omega (arith, h))
-mark_alone (b ∷ []) h k more g = ap (λ x. first_cut (x ∷ more)) k ∙ ap (λ m. first_cut (58 ∷ m)) (g refl)
-mark_alone (b ∷ c ∷ bs) h k more g = absurd (omega (arith, h))
+pub mark_alone : (text : List ℕ) → length text ≡ 1 → get_or text 0 0 ≡ 58 → IsFound true text (found.BadByte 0)
+unfolding break_of
+mark_alone [] h k = absurd (omega (arith, h))
+mark_alone (b ∷ []) h k = ap (λ x. break_of true (x ∷ [])) k
+mark_alone (b ∷ c ∷ bs) h k = absurd (omega (arith, h))
 
-pub mark_wrong : (finished : Bool) (text : List ℕ) → 1 < length text → get_or text 0 0 ≡ 58 → (get_or text 1 0 ≡ 58 → ⊥) → IsFound finished text found.Fault
-unfolding first_cut
-mark_wrong finished [] h k j more g = absurd (omega (arith, h))
-mark_wrong finished (b ∷ []) h k j more g = absurd (omega (arith, h))
-mark_wrong finished (b ∷ c ∷ bs) h k j more g = ap (λ x. first_cut (x ∷ c ∷ (bs ++ more))) k ∙ rw (ne_eqb c 58 j) refl
+pub mark_wrong : (finished : Bool) (text : List ℕ) → 1 < length text → get_or text 0 0 ≡ 58 → (get_or text 1 0 ≡ 58 → ⊥) → IsFound finished text (found.BadByte 0)
+unfolding break_of
+mark_wrong finished [] h k j = absurd (omega (arith, h))
+mark_wrong finished (b ∷ []) h k j = absurd (omega (arith, h))
+mark_wrong finished (b ∷ c ∷ bs) h k j = ap (λ x. break_of finished (x ∷ c ∷ bs)) k ∙ cond_no (c == 58) _ _ (ne_eqb c 58 j)
 
 pub comment_found : (finished : Bool) (text : List ℕ) (n : ℕ) → 0 < length text → get_or text 0 0 ≡ 59 → n ≡ 1 + prefix_len is_in_line (drop 1 text) → (n < length text) ⊎ (finished ≡ true)
     → IsFound finished text (found.Blank n)
@@ -150,16 +151,22 @@ word_open (b ∷ bs) n h k e f =
     let m = prefix_len is_word_byte (b ∷ bs) in
     (refl, inr (token (word (take m (b ∷ bs))), tt, cut_word b bs k ∙ ap (λ r. Some (token (word (take m (b ∷ bs))), r)) (drop_all m (b ∷ bs) (omega arith))))
 
-chain_none : {X : Type 0} (a b c d e f : Bool) (x₁ x₂ x₃ x₄ x₅ x₆ : Option X) → a ≡ false → b ≡ false → c ≡ false → d ≡ false → e ≡ false → f ≡ false
-    → cond a x₁ (cond b x₂ (cond c x₃ (cond d x₄ (cond e x₅ (cond f x₆ None))))) ≡ None
-chain_none a b c d e f x₁ x₂ x₃ x₄ x₅ x₆ ha hb hc hd he hf = rw (ha, hb, hc, hd, he, hf) refl
+chain_none : {X : Type 0} (a b c : Bool) (x₁ x₂ x₃ : Option X) (y : X) → a ≡ false → b ≡ false → c ≡ true → cond a x₁ (cond b x₂ (cond c (Some y) None)) ≡ Some y
+chain_none a b c x₁ x₂ x₃ y ha hb hc = rw (ha, hb, hc) refl
 
-pub nothing_found : (finished : Bool) (text : List ℕ) → 0 < length text → is_white (get_or text 0 0) ≡ false → (get_or text 0 0 ≡ 59 → ⊥) → (get_or text 0 0 ≡ 40 → ⊥) → (get_or text 0 0 ≡ 41 → ⊥) → (get_or text 0 0 ≡ 58 → ⊥) → is_word_byte (get_or text 0 0) ≡ false
-    → IsFound finished text found.Fault
-unfolding first_cut
-nothing_found finished [] h a b c d e f more g = absurd (omega (arith, h))
-nothing_found finished (x ∷ bs) h a b c d e f more g =
-    chain_none (is_white x) (x == 59) (x == 40) (x == 41) (x == 58) (is_word_byte x) _ _ _ _ _ _ a (ne_eqb x 59 b) (ne_eqb x 40 c) (ne_eqb x 41 d) (ne_eqb x 58 e) f
+no_marks : (b : ℕ) → (b ≡ 40 → ⊥) → (b ≡ 41 → ⊥) → (b ≡ 34 → ⊥) → (b ≡ 59 → ⊥) → (b ≡ 58 → ⊥) → is_mark b ≡ false
+no_marks b h k q c d = rw (ne_eqb b 40 h, ne_eqb b 41 k, ne_eqb b 34 q, ne_eqb b 59 c, ne_eqb b 58 d) refl
+
+nothing : (b : ℕ) → is_white b ≡ false → is_mark b ≡ false → is_word_byte b ≡ false → begins_nothing b ≡ true
+nothing b h k w = ap not (or_from (is_white b || is_mark b) (is_word_byte b) (or_from (is_white b) (is_mark b) h k) w)
+
+pub nothing_found : (finished : Bool) (text : List ℕ) → 0 < length text → is_white (get_or text 0 0) ≡ false → (get_or text 0 0 ≡ 59 → ⊥) → (get_or text 0 0 ≡ 40 → ⊥) → (get_or text 0 0 ≡ 41 → ⊥) → (get_or text 0 0 ≡ 34 → ⊥) → (get_or text 0 0 ≡ 58 → ⊥)
+    → is_word_byte (get_or text 0 0) ≡ false → IsFound finished text (found.BadByte 0)
+unfolding break_of
+nothing_found finished [] h a b c d q e f = absurd (omega (arith, h))
+nothing_found finished (x ∷ bs) h a b c d q e f =
+    cond_no (x == 34) _ _ (ne_eqb x 34 q) ∙ cond_no (x == 58) _ _ (ne_eqb x 58 e)
+    ∙ cond_yes (begins_nothing x) _ _ (nothing x a (no_marks x c d q b e) f)
 
 -- a comment and its semicolon are within the text
 pub comment_bound : (text : List ℕ) → 0 < length text → 1 + prefix_len is_in_line (drop 1 text) ≤ length text

@@ -4,6 +4,7 @@ use Rattle.std.proofs.Common.{◌∙◌, ap, sym}
 use Rattle.std.specs.Coded.{Coded, code_by, coded×, coded_ℕ, coded_list, coded_bool, coded_option}
 use Rattle.yices_grammar.specs.declared.Place.{Place}
 use Rattle.yices_grammar.specs.Grammar as grammar
+use Rattle.yices_grammar.specs.Grammar.{exprs}
 use Rattle.yices_text.specs.declared.command.Expr.{Expr, fold-roll-Expr, roll-Expr}
 use Rattle.yices_text.specs.declared.command.ExprForm.{ExprForm, fold-ExprForm, fold-roll-ExprForm}
 use Rattle.yices_text.specs.declared.command.ExprForm.TheVariants as form
@@ -16,7 +17,6 @@ use Rattle.yices_text.specs.contracts.command.Command as command
 use Rattle.yices_text.specs.contracts.error.ReadError as error
 use Rattle.yices_text.specs.declared.error.ReadError.{ReadError}
 use Rattle.yices_text.specs.View.{Reading}
-use Rattle.yices_text.specs.Machine.{exprs}
 use Rattle.yices_text.specs.Plain.{form_layer, expr_layer, plain, plain_form, plain_action, plain_command}
 
 -- an expression of the grammar as one of the code
@@ -70,8 +70,16 @@ mutual
 -- an action of the grammar as one of the code
 abbrev pub made_action : grammar.Action → Action
 made_action (grammar.declare w at) = action.Declare w (record { place = at; form = type_form.Bool })
+made_action (grammar.define w at e) = action.Define w (record { place = at; form = type_form.Bool }) (made e)
 made_action (grammar.assert e) = action.Assert (made e)
 made_action grammar.check = action.Check
+made_action grammar.push = action.Push
+made_action grammar.pop = action.Pop
+made_action grammar.reset = action.Reset
+made_action grammar.show_model = action.ShowModel
+made_action (grammar.eval e) = action.Eval (made e)
+made_action (grammar.echo bytes) = action.Echo bytes
+made_action grammar.exit = action.Exit
 
 -- a command of the grammar as one of the code
 abbrev pub made_command : grammar.Command → Command
@@ -80,8 +88,16 @@ made_command c = record { place = c.place; action = made_action c.action }
 -- back and forth gives the action
 pub plain-made_action : (a : grammar.Action) → plain_action (made_action a) ≡ a
 plain-made_action (grammar.declare w at) = refl
+plain-made_action (grammar.define w at e) = ap (grammar.define w at) (plain-made e)
 plain-made_action (grammar.assert e) = ap grammar.assert (plain-made e)
 plain-made_action grammar.check = refl
+plain-made_action grammar.push = refl
+plain-made_action grammar.pop = refl
+plain-made_action grammar.reset = refl
+plain-made_action grammar.show_model = refl
+plain-made_action (grammar.eval e) = ap grammar.eval (plain-made e)
+plain-made_action (grammar.echo bytes) = refl
+plain-made_action grammar.exit = refl
 
 -- back and forth gives the command
 pub plain-made_command : (c : grammar.Command) → plain_command (made_command c) ≡ c

@@ -1,10 +1,13 @@
 pub mod Pieces
 pub mod Machine
-pub mod Progress
+pub mod Leading
+pub mod Positions
 pub mod Plain
+pub mod View
+pub mod Progress
 pub mod Codes
 pub mod Found
 pub mod States
 pub mod Leads
-pub mod View
 pub mod Sound
+pub mod Laws

@@ -1,15 +1,21 @@
 -- A machine that takes the tokens of commands one by one.
-use Rattle.std.specs.Prelude.{ℕ, ◌+◌, ◌<◌, Bool, ◌&&◌, ◌||◌, ◌==◌, Option, Some, None, List, [], ◌∷◌, ◌++◌, length, nat_le, codes, if◌then◌else◌}
+use Rattle.std.specs.Prelude.{ℕ, ◌+◌, ◌<◌, Option, Some, None, List, [], ◌∷◌, ◌++◌, length, codes, if◌then◌else◌}
 use Rattle.std.specs.Str.{bytes_eq}
 use Rattle.yices_grammar.specs.declared.Place.{Place}
-use Rattle.yices_grammar.specs.Tokens.{Lexeme, open_bracket, close_bracket, typing_mark, word, Token}
-use Rattle.yices_grammar.specs.Grammar.{Expr, Exprs, true_word, false_word, name, operation, none, more, Action, declare, assert, check, Command, is_name}
+use Rattle.yices_grammar.specs.Tokens.{Lexeme, open_bracket, close_bracket, typing_mark, word, string, Token, content_bytes}
+use Rattle.yices_grammar.specs.Grammar.{Expr, true_word, false_word, name, operation, exprs, Action, declare, define, assert, check, push, pop, reset, show_model, eval, echo, exit, Command, is_name, is_among, built_operators}
 
 -- an operation whose closing bracket hasn't come: its arguments so far in their order
 pub record Frame : Type 0 where
   pub place : Place
   pub operator : List ℕ
   pub arguments : List Expr
+
+-- what an expression is for
+pub data Purpose : Type 0 where
+  to_define : List ℕ → Place → Purpose
+  to_assert : Purpose
+  to_eval : Purpose
 
 -- what was read of a command, with the place of the command; the innermost operation is first
 pub data State : Type 0 where
@@ -18,8 +24,10 @@ pub data State : Type 0 where
   defining : Place → State
   named : Place → List ℕ → State
   typing : Place → List ℕ → State
-  operand : Place → List Frame → State
-  operator : Place → List Frame → Place → State
+  typed : Place → List ℕ → Place → State
+  operand : Place → Purpose → List Frame → State
+  operator : Place → Purpose → List Frame → Place → State
+  echoing : Place → State
   closing : Place → Action → State
 
 -- a state, and the command that is complete
@@ -27,39 +35,58 @@ pub record Moved : Type 0 where
   pub state : State
   pub commands : List Command
 
--- the expressions as arguments
-abbrev pub exprs : List Expr → Exprs
-exprs [] = none
-exprs (e ∷ es) = more e (exprs es)
-
--- the operators that take one argument or more
-abbrev pub is_junction : List ℕ → Bool
-is_junction op = bytes_eq op (codes "and") || bytes_eq op (codes "or")
-
--- the operator that takes one argument
-abbrev pub is_negation : List ℕ → Bool
-is_negation op = bytes_eq op (codes "not")
-
--- the operator takes so many arguments
-unfoldable pub takes : List ℕ → ℕ → Bool
-takes op n = nat_le 1 n && (is_junction op || (n == 1 && is_negation op))
+-- the action of an expression that is whole
+abbrev pub action_of : Purpose → Expr → Action
+action_of (to_define w at) e = define w at e
+action_of to_assert e = assert e
+action_of to_eval e = eval e
 
 -- no command is complete
 abbrev pub goes : State → Option Moved
 goes s = Some (record { state = s; commands = [] })
 
--- an expression more, in the innermost operation or as the formula
-unfoldable pub attach : Place → List Frame → Expr → State
-attach p [] e = closing p (assert e)
-attach p (f ∷ fs) e = operand p (record { place = f.place; operator = f.operator; arguments = f.arguments ++ e ∷ [] } ∷ fs)
+-- a command is complete
+abbrev pub completes : Place → Action → Option Moved
+completes p a = Some (record { state = between; commands = record { place = p; action = a } ∷ [] })
+
+-- an expression more, in the innermost operation or as the whole
+unfoldable pub attach : Place → Purpose → List Frame → Expr → State
+attach p g [] e = closing p (action_of g e)
+attach p g (f ∷ fs) e = operand p g (record { place = f.place; operator = f.operator; arguments = f.arguments ++ e ∷ [] } ∷ fs)
+
+-- the action of a command that is one word
+abbrev pub word_action : List ℕ → Option Action
+word_action w =
+    if bytes_eq w (codes "check") then Some check
+    else if bytes_eq w (codes "push") then Some push
+    else if bytes_eq w (codes "pop") then Some pop
+    else if bytes_eq w (codes "reset") then Some reset
+    else if bytes_eq w (codes "show-model") then Some show_model
+    else if bytes_eq w (codes "exit") then Some exit
+    else None
+
+-- the state behind a command that is one word, if there is one
+abbrev pub closing_of : Place → Option Action → Option State
+closing_of p None = None
+closing_of p (Some a) = Some (closing p a)
+
+-- the state behind the word of a command
+abbrev pub command_state : Place → List ℕ → Option State
+command_state p w =
+    if bytes_eq w (codes "define") then Some (defining p)
+    else if bytes_eq w (codes "assert") then Some (operand p to_assert [])
+    else if bytes_eq w (codes "eval") then Some (operand p to_eval [])
+    else if bytes_eq w (codes "echo") then Some (echoing p)
+    else closing_of p (word_action w)
+
+-- the machine goes on in that state, if there is one
+abbrev pub goes_to : Option State → Option Moved
+goes_to None = None
+goes_to (Some s) = goes s
 
 -- the word of a command
 unfoldable pub step_command : Place → List ℕ → Option Moved
-step_command p w =
-    if bytes_eq w (codes "define") then goes (defining p)
-    else if bytes_eq w (codes "assert") then goes (operand p [])
-    else if bytes_eq w (codes "check") then goes (closing p check)
-    else None
+step_command p w = goes_to (command_state p w)
 
 -- a word as an expression
 unfoldable pub word_expr : Place → List ℕ → Option Expr
@@ -70,15 +97,14 @@ word_expr at w =
     else None
 
 -- the expression of a word, where it is one, attached
-abbrev pub attach_word : Place → List Frame → Option Expr → Option Moved
-attach_word p fs None = None
-attach_word p fs (Some e) = goes (attach p fs e)
+abbrev pub attach_word : Place → Purpose → List Frame → Option Expr → Option Moved
+attach_word p g fs None = None
+attach_word p g fs (Some e) = goes (attach p g fs e)
 
 -- the closing bracket of the innermost operation
-abbrev pub step_close : Place → List Frame → Option Moved
-step_close p [] = None
-step_close p (f ∷ fs) =
-    if takes f.operator (length f.arguments) then goes (attach p fs (operation f.place f.operator (exprs f.arguments))) else None
+abbrev pub step_close : Place → Purpose → List Frame → Option Moved
+step_close p g [] = None
+step_close p g (f ∷ fs) = goes (attach p g fs (operation f.place f.operator (exprs f.arguments)))
 
 -- the state behind a token at that place, if the tokens so far begin a command
 unfoldable pub step : State → Place → Lexeme → Option Moved
@@ -86,13 +112,17 @@ step between at open_bracket = goes (opened at)
 step (opened p) at (word w) = step_command p w
 step (defining p) at (word w) = if is_name w then goes (named p w) else None
 step (named p w) at typing_mark = goes (typing p w)
-step (typing p w) at (word v) = if bytes_eq v (codes "bool") then goes (closing p (declare w at)) else None
-step (operand p fs) at (word w) = attach_word p fs (word_expr at w)
-step (operand p fs) at open_bracket = goes (operator p fs at)
-step (operand p fs) at close_bracket = step_close p fs
-step (operator p fs o) at (word w) =
-    if is_junction w || is_negation w then goes (operand p (record { place = o; operator = w; arguments = [] } ∷ fs)) else None
-step (closing p a) at close_bracket = Some (record { state = between; commands = record { place = p; action = a } ∷ [] })
+step (typing p w) at (word v) = if bytes_eq v (codes "bool") then goes (typed p w at) else None
+step (typed p w of) at (word v) = attach_word p (to_define w of) [] (word_expr at v)
+step (typed p w of) at open_bracket = goes (operator p (to_define w of) [] at)
+step (typed p w of) at close_bracket = completes p (declare w of)
+step (operand p g fs) at (word w) = attach_word p g fs (word_expr at w)
+step (operand p g fs) at open_bracket = goes (operator p g fs at)
+step (operand p g fs) at close_bracket = step_close p g fs
+step (operator p g fs o) at (word w) =
+    if is_among built_operators w then goes (operand p g (record { place = o; operator = w; arguments = [] } ∷ fs)) else None
+step (echoing p) at (string s) = goes (closing p (echo (content_bytes s)))
+step (closing p a) at close_bracket = completes p a
 step _ at _ = None
 
 -- what follows a step that was taken
@@ -112,8 +142,10 @@ depth (opened p) = 1
 depth (defining p) = 1
 depth (named p w) = 1
 depth (typing p w) = 1
-depth (operand p fs) = 1 + length fs
-depth (operator p fs o) = 2 + length fs
+depth (typed p w at) = 1
+depth (operand p g fs) = 1 + length fs
+depth (operator p g fs o) = 2 + length fs
+depth (echoing p) = 1
 depth (closing p a) = 1
 
 -- the bracket limit at a token, where so many brackets are open
@@ -122,3 +154,4 @@ IsWithin d open_bracket = d < 4096
 IsWithin d close_bracket = Unit {0}
 IsWithin d typing_mark = Unit {0}
 IsWithin d (word w) = Unit {0}
+IsWithin d (string s) = Unit {0}

@@ -1,15 +1,11 @@
 -- How far a text was read.
-use Rattle.std.specs.Prelude.{◌≡◌, ℕ, ◌<◌, ◌≤◌, ◌⊎◌, Bool, Some, None, List, [], ◌∷◌, ◌++◌, length, drop, take, map}
+use Rattle.std.specs.Prelude.{◌≡◌, ℕ, ◌<◌, ◌≤◌, ◌⊎◌, Bool, false, Some, None, List, [], ◌∷◌, length, drop, take}
 use Rattle.yices_grammar.specs.declared.Place.{Place}
-use Rattle.yices_grammar.specs.Tokens.{Lexeme, open_bracket, close_bracket, typing_mark, word, Token, Piece, white, comment, token, piece_bytes, tokens_from, start}
+use Rattle.yices_grammar.specs.Tokens.{open_bracket, close_bracket, typing_mark, word, string, Piece, white, comment, token, piece_bytes, tokens_from, start, Firm, end_place}
 use Rattle.yices_grammar.specs.Grammar.{Command}
-use Rattle.yices_grammar.specs.Texts.{IsShallow, Reads, BeginsWith}
-use Rattle.yices_text.specs.Pieces.{first_cut, GoesOn, Firm, end_place}
+use Rattle.yices_grammar.specs.Texts.{IsShallow, lexemes}
+use Rattle.yices_text.specs.Pieces.{first_cut, break_of}
 use Rattle.yices_text.specs.Machine.{State, run, between}
-
--- the tokens without their places
-abbrev pub lexemes : List Token → List Lexeme
-lexemes ts = map (λ t. t.lexeme) ts
 
 -- the text up to that byte is these commands and what the state says; the place is that of the byte
 pub record IsReached (finished : Bool) (fed : List ℕ) (at : ℕ) (place : Place) (answered : List Command) (s : State) : Type 0 where
@@ -41,15 +37,8 @@ MayGrow (token open_bracket) = ⊥
 MayGrow (token close_bracket) = ⊥
 MayGrow (token typing_mark) = ⊥
 MayGrow (token (word w)) = Unit {0}
+MayGrow (token (string s)) = ⊥
 
 -- what the text begins with isn't known before it goes on
 abbrev pub IsOpen : List ℕ → Type 0
-IsOpen text = (first_cut text ≡ None) ⊎ ((p : Piece) × MayGrow p × (first_cut text ≡ Some (p, [])))
-
--- no text that begins so is a list of commands
-abbrev pub IsFaulty : Bool → List ℕ → Type 0
-IsFaulty finished fed = (more : List ℕ) (cs : List Command) → GoesOn finished more → Reads (fed ++ more) cs → ⊥
-
--- the text begins with no command more
-abbrev pub HoldsNoMore : List ℕ → List Command → Type 0
-HoldsNoMore fed answered = (c : Command) → BeginsWith fed (answered ++ c ∷ []) → ⊥
+IsOpen text = ((first_cut text ≡ None) × (break_of false text ≡ None)) ⊎ ((p : Piece) × MayGrow p × (first_cut text ≡ Some (p, [])))

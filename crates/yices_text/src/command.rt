@@ -48,10 +48,26 @@ pub enum TypeForm {
 pub enum Action {
     /// A name gets a type.
     Declare(Text, TypeExpr),
+    /// A name gets a type, and stands for an expression.
+    Define(Text, TypeExpr, Expr),
     /// A formula holds from now on.
     Assert(Expr),
     /// The formulas are checked.
     Check,
+    /// A level is opened.
+    Push,
+    /// The newest level is taken away.
+    Pop,
+    /// All levels and formulas are taken away.
+    Reset,
+    /// The model that was found is shown.
+    ShowModel,
+    /// An expression is evaluated in the model that was found.
+    Eval(Expr),
+    /// The bytes that a string stands for are written.
+    Echo(Text),
+    /// The run ends.
+    Exit,
 }
 
 /// A command, with the place of its opening bracket.

@@ -1,5 +1,6 @@
 //! How far a text was read.
-ghost use Rattle.std.specs.Prelude.{ℕ, ◌≡◌, ◌+◌, ◌<◌, ◌≤◌, ◌==◌, ◌^◌, if◌then◌else◌};
+ghost use Rattle.std.specs.Prelude.{ℕ, ◌≡◌, ◌+◌, ◌<◌, ◌≤◌, ◌==◌, ◌^◌, length};
+ghost use Rattle.yices_grammar.specs.Tokens.{place_behind, behind_byte};
 
 use yices_grammar::Place;
 
@@ -22,16 +23,15 @@ impl Cursor {
         Cursor { index: 0, place }
     }
 
-    /// Behind a piece of so many bytes, of which none but the first ends a line.
-    pub fn behind(self, first: u8, length: usize) -> Cursor
-        requires some { 0 < length }
-        requires small { self.index + length ≤ 2 ^ 63 }
-        ensures index { result.index ≡ self.index + length }
-        ensures place { result.place ≡ (if first == 10 then record { line = self.place.line + 1; column = 1 } else record { line = self.place.line; column = self.place.column + length }) }
+    // Behind one byte.
+    fn behind_one(self, byte: u8) -> Cursor
+        requires { self.index < 2 ^ 63 }
+        ensures index { result.index ≡ self.index + 1 }
+        ensures place { result.place ≡ behind_byte self.place byte }
     {
         let Place { line, column } = self.place;
-        let index = self.index + length;
-        if first == b'\n' {
+        let index = self.index + 1;
+        if byte == b'\n' {
             let place = Place {
                 line: line + 1,
                 column: 1,
@@ -40,8 +40,21 @@ impl Cursor {
         }
         let place = Place {
             line,
-            column: column + length as u64,
+            column: column + 1,
         };
         Cursor { index, place }
+    }
+
+    /// Behind these bytes. It takes O(n) steps for n bytes.
+    pub fn behind(self, bytes: &[u8]) -> Cursor
+        requires { self.index + length bytes.now ≤ 2 ^ 63 }
+        ensures index { result.index ≡ self.index + length bytes.now }
+        ensures place { result.place ≡ place_behind self.place bytes.now }
+    {
+        let mut at = self;
+        for byte in bytes {
+            at = at.behind_one(*byte);
+        }
+        at
     }
 }

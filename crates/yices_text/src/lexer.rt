@@ -1,8 +1,9 @@
 //! The pieces of a text: white space, comments and tokens.
-ghost use Rattle.std.specs.Prelude.{ℕ, ◌≡◌, ◌+◌, ◌<◌, ◌≤◌, length, slice_index, true};
+ghost use Rattle.std.specs.Prelude.{ℕ, ◌≡◌, ◌&&◌, ◌==◌, not, ◌+◌, ◌<◌, ◌≤◌, length, slice_index, true, false};
 ghost use Rattle.std.specs.List.{prefix_len};
-ghost use Rattle.yices_grammar.specs.Tokens.{is_white, is_word_byte, is_in_line};
-ghost use Rattle.yices_text.specs.Found.{IsFound};
+ghost use Rattle.yices_grammar.specs.Tokens.{is_white, is_word_byte, is_in_line, is_plain as is_plain_byte, is_escape as is_escape_byte};
+ghost use Rattle.yices_text.specs.Pieces.{scan, content_step};
+ghost use Rattle.yices_text.specs.Found.{IsFound, plain_scan};
 
 use std::str::from_utf8;
 
@@ -17,6 +18,8 @@ pub(crate) enum Lexeme<'a> {
     Mark,
     /// A word.
     Word(&'a str),
+    /// A string, as it stands between its quotes.
+    Quoted(&'a str),
 }
 
 /// What a text begins with.
@@ -28,14 +31,40 @@ pub(crate) enum Found<'a> {
     Token(Lexeme<'a>, usize),
     /// The text has to go on before it is known.
     Open,
-    /// No piece begins so.
-    Fault,
+    /// No piece can hold the byte at that index.
+    BadByte(usize),
+    /// The text ends inside a string.
+    Ends,
+}
+
+/// How a string goes on behind its opening quote.
+#[derive(Clone, Copy)]
+pub(crate) enum Scanned {
+    /// Its closing quote is at that index.
+    Closed(usize),
+    /// It can't hold the byte at that index.
+    Broken(usize),
+    /// The text ends before it does.
+    Unclosed,
 }
 
 fn is_part_of_word(byte: u8) -> bool
     ensures { result ≡ is_word_byte byte }
 {
     32 < byte && byte < 127 && !matches!(byte, b'(' | b')' | b'"' | b';' | b':')
+}
+
+fn is_plain(byte: u8) -> bool
+    ensures { result ≡ is_plain_byte byte }
+{
+    (matches!(byte, b'\t' | b'\n' | b'\r') || 31 < byte && byte < 127)
+        && !matches!(byte, b'"' | b'\\')
+}
+
+fn is_escape(byte: u8) -> bool
+    ensures { result ≡ is_escape_byte byte }
+{
+    matches!(byte, b'n' | b't' | b'"' | b'\\')
 }
 
 /// How many bytes of a word the text begins with.
@@ -60,6 +89,44 @@ fn line_length(text: &[u8]) -> usize
         }
     }
     text.len()
+}
+
+/// Whether a backslash stands before the next byte, behind this one of a string; none where a string
+/// can't hold it.
+fn step_content(escaped: bool, byte: u8) -> Option<bool>
+    ensures { result ≡ content_step escaped byte }
+{
+    if escaped {
+        return if is_escape(byte) { Some(false) } else { None };
+    }
+    if byte == b'\\' {
+        return Some(true);
+    }
+    if is_plain(byte) { Some(false) } else { None }
+}
+
+/// Whether the byte is the closing quote.
+fn closes(escaped: bool, byte: u8) -> bool
+    ensures { result ≡ (not escaped && byte == 34) }
+{
+    !escaped && byte == b'"'
+}
+
+/// How the string goes on that the text stands in.
+fn scan_string(text: &[u8]) -> Scanned
+    ensures { plain_scan result ≡ scan false text.now }
+{
+    let mut escaped = false;
+    for (i, byte) in text.iter().enumerate() {
+        if closes(escaped, *byte) {
+            return Scanned::Closed(i);
+        }
+        match step_content(escaped, *byte) {
+            Some(next) => escaped = next,
+            None => return Scanned::Broken(i),
+        }
+    }
+    Scanned::Unclosed
 }
 
 fn is_white_space(byte: u8) -> bool
@@ -90,12 +157,32 @@ fn mark(text: &[u8], finished: bool) -> Found<'_>
     ensures { IsFound finished text.now result }
 {
     if text.len() == 1 {
-        return if finished { Found::Fault } else { Found::Open };
+        return if finished {
+            Found::BadByte(0)
+        } else {
+            Found::Open
+        };
     }
     if text[1] == b':' {
         return Found::Token(Lexeme::Mark, 2);
     }
-    Found::Fault
+    Found::BadByte(0)
+}
+
+/// A string, where the text begins with a quote.
+fn string(text: &[u8], finished: bool) -> Found<'_>
+    requires some { 0 < length text.now }
+    requires first { slice_index text.now 0 ≡ 34 }
+    ensures { IsFound finished text.now result }
+{
+    match scan_string(&text[1..]) {
+        Scanned::Closed(n) => match from_utf8(&text[1..n + 1]) {
+            Ok(content) => Found::Token(Lexeme::Quoted(content), n + 2),
+            Err(_) => unreachable!(),
+        },
+        Scanned::Broken(n) => Found::BadByte(n + 1),
+        Scanned::Unclosed => { if finished { Found::Ends } else { Found::Open } }
+    }
 }
 
 /// A word, where the text begins with a byte of one.
@@ -134,11 +221,14 @@ pub(crate) fn first_piece(text: &[u8], finished: bool) -> Found<'_>
     if byte == b')' {
         return Found::Token(Lexeme::Close, 1);
     }
+    if byte == b'"' {
+        return string(text, finished);
+    }
     if byte == b':' {
         return mark(text, finished);
     }
     if is_part_of_word(byte) {
         return word(text, finished);
     }
-    Found::Fault
+    Found::BadByte(0)
 }

@@ -4,14 +4,18 @@
 mod command;
 mod cursor;
 mod error;
+mod laws;
 mod lexer;
 mod parser;
+mod quoted;
 mod reader;
 mod scan;
+mod state;
 mod words;
 
 pub use command::{Action, Command, Expr, ExprForm, Exprs, TypeExpr, TypeForm};
-pub use error::ReadError;
+pub use error::{ReadError, SyntaxError, SyntaxKind};
+pub use laws::pieces_are_alike;
 pub use reader::Reader;
 pub use yices_grammar::Place;
 

@@ -2,8 +2,8 @@
 ghost use Rattle.std.specs.Prelude.{ℕ, ◌≡◌, ◌+◌, ◌≤◌, ◌^◌, ◌∷◌, ◌++◌, [], List, Option, Some, None, true, false, length, IfOk, IfErr, OnOk, OnErr, IsErr, Ok, Err};
 ghost use Rattle.yices_grammar.specs.Grammar as grammar;
 ghost use Rattle.yices_grammar.specs.Texts.{Reads, BeginsWith};
-ghost use Rattle.yices_text.specs.Progress.{IsFaulty, HoldsNoMore};
-ghost use Rattle.yices_text.specs.View.{listed};
+ghost use Rattle.yices_grammar.specs.Faults.{Fault, HasFault};
+ghost use Rattle.yices_text.specs.View.{listed, fault_of, AnswersFault, HoldsNoMore};
 ghost use Rattle.yices_text.specs.declared.error.ReadError.{ReadError};
 
 use crate::command::Command;
@@ -129,8 +129,9 @@ impl Reader {
         ensures whole { result ≡ Ok None → self.old.finished ≡ true → Reads self.old.fed self.old.answered }
         ensures waiting { result ≡ Ok None → self.old.finished ≡ false → HoldsNoMore self.old.fed self.old.answered }
 
-        // A fault: no text that begins so is a list of commands.
-        ensures fault { result ≡ Err ReadError.NotBuilt → IsFaulty self.old.finished self.old.fed }
+        // A fault is answered exactly where the text has it behind the commands answered.
+        ensures fault { IfErr result (λ e. (f : Fault) → fault_of e ≡ Some f → HasFault self.old.finished self.old.fed self.old.answered f) }
+        ensures exactly { (f : Fault) → HasFault self.old.finished self.old.fed self.old.answered f → AnswersFault f result }
 
         // Errors last.
         ensures working { OnOk result (self.new.failure ≡ None) }

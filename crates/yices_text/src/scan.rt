@@ -1,16 +1,18 @@
 //! From the bytes of a text to its next command.
-ghost use Rattle.std.specs.Prelude.{ℕ, ◌≡◌, ◌+◌, ◌<◌, ◌≤◌, ◌^◌, List, length};
+ghost use Rattle.std.specs.Prelude.{ℕ, ◌≡◌, ◌<◌, ◌≤◌, ◌^◌, List, length, Some};
 ghost use Rattle.yices_grammar.specs.Grammar as grammar;
 ghost use Rattle.yices_text.specs.Machine as machine;
 ghost use Rattle.yices_text.specs.States.{plain_state};
 ghost use Rattle.yices_text.specs.Progress.{IsReached};
 ghost use Rattle.yices_text.specs.Leads.{LeadsOn, GoesForward, Leads};
+ghost use Rattle.yices_text.specs.View.{kind_of, fault_of};
 
 use crate::command::Command;
 use crate::cursor::Cursor;
-use crate::error::ReadError;
+use crate::error::{ReadError, SyntaxError, SyntaxKind};
 use crate::lexer::{Found, first_piece};
-use crate::parser::{State, Step, take_token};
+use crate::parser::take_token;
+use crate::state::{State, Step};
 use std::alloc::Global;
 
 /// A command, and where it ends.
@@ -31,6 +33,13 @@ pub(crate) enum Progress {
     Waits,
 }
 
+fn fault(kind: SyntaxKind, at: Cursor) -> ReadError
+    ensures { fault_of result ≡ Some (record { kind = kind_of kind; place = at.place }) }
+{
+    let place = at.place;
+    ReadError::Syntax(SyntaxError { place, kind })
+}
+
 /// A piece more of the text, from a byte of it on.
 fn read_piece(
     alloc: Global,
@@ -47,11 +56,11 @@ fn read_piece(
     let rest = &text[at.index..];
     match first_piece(rest, finished) {
         Found::Blank(length) => {
-            let next = at.behind(rest[0], length);
+            let next = at.behind(&rest[..length]);
             Ok(Progress::Goes(next, state))
         }
         Found::Token(lexeme, length) => {
-            let end = at.behind(rest[0], length);
+            let end = at.behind(&rest[..length]);
             match take_token(alloc, state, at.place, lexeme) {
                 Ok(Step::Goes(next)) => Ok(Progress::Goes(end, next)),
                 Ok(Step::Complete(command)) => Ok(Progress::Complete(Read { command, end })),
@@ -59,7 +68,8 @@ fn read_piece(
             }
         }
         Found::Open => Ok(Progress::Waits),
-        Found::Fault => Err(ReadError::NotBuilt),
+        Found::BadByte(index) => Err(fault(SyntaxKind::BadByte, at.behind(&rest[..index]))),
+        Found::Ends => Err(fault(SyntaxKind::EndOfInput, at.behind(rest))),
     }
 }
 
@@ -92,7 +102,7 @@ pub(crate) fn read_command(
         return Ok(None);
     }
     if finished {
-        return Err(ReadError::NotBuilt);
+        return Err(fault(SyntaxKind::EndOfInput, at));
     }
     Ok(None)
 }

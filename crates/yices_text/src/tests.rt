@@ -5,39 +5,60 @@ use crate::error::ReadError;
 use crate::reader::Reader;
 use std::alloc::{AllocError, Global};
 use std::test::Fail;
+use yices_grammar::Place;
 
 /// Texts, and their commands with the places.
-const TEXTS: [(&str, &str); 14] = [
+const COMMANDS: [(&str, &str); 8] = [
     ("", ""),
     (
         "(define p::bool)(assert p)(check)",
         "1:1 define p 1:12; 1:17 assert p@1:25; 1:27 check; ",
     ),
     (
-        "(define p::bool)(assert (and p (not p)))(check)",
-        "1:1 define p 1:12; 1:17 assert (and@1:25 p@1:30 (not@1:32 p@1:37)); 1:41 check; ",
+        "(define q :: bool (and p true))",
+        "1:1 define q 1:14 (and@1:19 p@1:24 true@1:26); ",
     ),
     (
         "; one\n(assert\ttrue) ; two\n (check);",
         "2:1 assert true@2:9; 3:2 check; ",
     ),
     (
-        "(assert(or false pq))",
-        "1:1 assert (or@1:8 false@1:12 pq@1:18); ",
+        "(push)(pop)(reset)(show-model)(exit)",
+        "1:1 push; 1:7 pop; 1:12 reset; 1:19 show-model; 1:31 exit; ",
     ),
-    ("(define check :: bool)", "1:1 define check 1:18; "),
-    ("(check)(push)", "1:1 check; fault"),
-    ("(check)(assert (not p p))(check)", "1:1 check; fault"),
-    ("(assert (and))", "fault"),
-    ("(assert and)", "fault"),
-    ("(assert +1)", "fault"),
-    ("(assert p", "fault"),
-    ("(check):", "1:1 check; fault"),
-    ("check", "fault"),
+    ("(eval (not p))", "1:1 eval (not@1:7 p@1:12); "),
+    ("(echo \"a\\n\\t\\\"\\\\b\")", "1:1 echo [a\n\t\"\\b]; "),
+    ("(assert (or))", "1:1 assert (or@1:9); "),
+];
+
+/// Texts, and the commands before their fault, and the fault.
+const FAULTS: [(&str, &str); 22] = [
+    (")", "1:1: syntax Unexpected; "),
+    ("\"a\"", "1:1: syntax Unexpected; "),
+    ("0b2", "1:1: syntax BadLiteral; "),
+    ("(che", "1:2: syntax Unexpected; "),
+    ("(check", "1:7: syntax EndOfInput; "),
+    ("(check x)", "1:8: syntax Unexpected; "),
+    ("(check):", "1:1 check; 1:8: syntax BadByte; "),
+    ("(check)\n(foo)", "1:1 check; 2:2: syntax Unexpected; "),
+    ("((check))", "1:2: syntax Unexpected; "),
+    ("(define p : bool)", "1:11: syntax BadByte; "),
+    ("(define p::real)", "1:12: not built yet; "),
+    ("(define p::->)", "1:12: syntax Unexpected; "),
+    ("(define-type t)", "1:2: not built yet; "),
+    ("(assert)", "1:8: syntax Unexpected; "),
+    ("(assert and)", "1:9: syntax Unexpected; "),
+    ("(assert 1.)", "1:9: syntax BadLiteral; "),
+    ("(assert +1)", "1:9: not built yet; "),
+    ("(assert (+ p))", "1:10: not built yet; "),
+    ("(assert\n \u{1})", "2:2: syntax BadByte; "),
+    ("(echo check)", "1:7: syntax Unexpected; "),
+    ("(echo \"a\\x\")", "1:10: syntax BadByte; "),
+    ("(echo \"a\\\"", "1:11: syntax EndOfInput; "),
 ];
 
 fn show(expr: &Expr, out: &mut String) -> Result<(), AllocError> {
-    let (line, column) = (expr.place.line, expr.place.column);
+    let Place { line, column } = expr.place;
     match &expr.form {
         ExprForm::True => write!(out, " true@{line}:{column}"),
         ExprForm::False => write!(out, " false@{line}:{column}"),
@@ -52,27 +73,43 @@ fn show(expr: &Expr, out: &mut String) -> Result<(), AllocError> {
     }
 }
 
-fn show_command(command: &Command, out: &mut String) -> Result<(), AllocError> {
-    let (line, column) = (command.place.line, command.place.column);
-    match &command.action {
+fn show_action(action: &Action, out: &mut String) -> Result<(), AllocError> {
+    match action {
         Action::Declare(name, of) => {
-            let (type_line, type_column) = (of.place.line, of.place.column);
-            write!(
-                out,
-                "{line}:{column} define {} {type_line}:{type_column}; ",
-                name.as_str()
-            )
+            let Place { line, column } = of.place;
+            write!(out, " define {} {line}:{column}", name.as_str())
+        }
+        Action::Define(name, of, expr) => {
+            let Place { line, column } = of.place;
+            write!(out, " define {} {line}:{column}", name.as_str())?;
+            show(expr, out)
         }
         Action::Assert(expr) => {
-            write!(out, "{line}:{column} assert")?;
-            show(expr, out)?;
-            write!(out, "; ")
+            write!(out, " assert")?;
+            show(expr, out)
         }
-        Action::Check => write!(out, "{line}:{column} check; "),
+        Action::Check => write!(out, " check"),
+        Action::Push => write!(out, " push"),
+        Action::Pop => write!(out, " pop"),
+        Action::Reset => write!(out, " reset"),
+        Action::ShowModel => write!(out, " show-model"),
+        Action::Eval(expr) => {
+            write!(out, " eval")?;
+            show(expr, out)
+        }
+        Action::Echo(text) => write!(out, " echo [{}]", text.as_str()),
+        Action::Exit => write!(out, " exit"),
     }
 }
 
-/// Writes the commands that are answered, and whether a fault ended them.
+fn show_command(command: &Command, out: &mut String) -> Result<(), AllocError> {
+    let Place { line, column } = command.place;
+    write!(out, "{line}:{column}")?;
+    show_action(&command.action, out)?;
+    write!(out, "; ")
+}
+
+/// Writes the commands that are answered and the fault behind them, and says whether there is one.
 fn drain(reader: &mut Reader, out: &mut String) -> Result<bool, AllocError>
     ensures fed { reader.new.fed ≡ reader.old.fed }
     ensures finished { reader.new.finished ≡ reader.old.finished }
@@ -81,94 +118,73 @@ fn drain(reader: &mut Reader, out: &mut String) -> Result<bool, AllocError>
         match reader.next() {
             Ok(Some(command)) => show_command(&command, out)?,
             Ok(None) => return Ok(false),
-            Err(ReadError::NotBuilt) => return Ok(true),
             Err(ReadError::NoMemory) => return Err(AllocError),
+            Err(error) => {
+                write!(out, "{error}; ")?;
+                return Ok(true);
+            }
         }
     }
     Ok(false)
 }
 
-#[test]
-fn whole_texts_give_their_commands(rt: HostRuntime) -> Result<(), Fail> {
-    for (text, want) in TEXTS {
-        assert!(rt; text.len() < 100);
-        let mut reader = Reader::new(rt.alloc());
-        let mut out = String::new(rt.alloc());
-        reader.feed(text.as_bytes())?;
-        reader.finish();
-        if drain(&mut reader, &mut out)? {
-            out.push_str("fault")?;
-        }
-        assert_eq!(rt; out.as_str(), want, "of {text}");
-    }
-    Ok(())
-}
-
-#[test]
-fn single_bytes_give_the_same_commands(rt: HostRuntime) -> Result<(), Fail> {
-    for (text, want) in TEXTS {
-        assert!(rt; text.len() < 100);
-        let mut out = String::new(rt.alloc());
-        if drain_bytes(rt.alloc(), text.as_bytes(), &mut out)? {
-            out.push_str("fault")?;
-        }
-        assert_eq!(rt; out.as_str(), want, "of {text}");
-    }
-    Ok(())
-}
-
-/// Feeds the text in pieces of one byte, and writes the commands that are answered.
-fn drain_bytes(alloc: Global, text: &[u8], out: &mut String) -> Result<bool, AllocError>
-    requires { length text.now < 100 }
+/// Writes what the text gives, asked for whenever so many bytes more were fed.
+fn give(alloc: Global, text: &[u8], size: usize, out: &mut String) -> Result<(), AllocError>
+    requires small { length text.now < 100 }
+    requires some { 0 < size }
 {
     let mut reader = Reader::new(alloc);
-    for byte in text {
-        reader.feed(&[*byte])?;
-        if drain(&mut reader, out)? {
-            return Ok(true);
+    for i in 0..text.len() {
+        reader.feed(&[text[i]])?;
+        if (i + 1) % size == 0 && drain(&mut reader, out)? {
+            return Ok(());
         }
     }
     reader.finish();
-    drain(&mut reader, out)
+    drain(&mut reader, out)?;
+    Ok(())
 }
 
 #[test]
-fn a_word_goes_on_in_the_next_piece(rt: HostRuntime) -> Result<(), Fail> {
+fn texts_give_their_commands_in_any_pieces(rt: HostRuntime) -> Result<(), Fail> {
+    for (text, want) in COMMANDS {
+        assert!(rt; text.len() < 100);
+        for size in [1usize, 2, 7, 100] {
+            assert!(rt; 0 < size);
+            let mut out = String::new(rt.alloc());
+            give(rt.alloc(), text.as_bytes(), size, &mut out)?;
+            assert_eq!(rt; out.as_str(), want, "of {text} by {size}");
+        }
+    }
+    Ok(())
+}
+
+#[test]
+fn faults_have_their_kind_and_place_in_any_pieces(rt: HostRuntime) -> Result<(), Fail> {
+    for (text, want) in FAULTS {
+        assert!(rt; text.len() < 100);
+        for size in [1usize, 2, 7, 100] {
+            assert!(rt; 0 < size);
+            let mut out = String::new(rt.alloc());
+            give(rt.alloc(), text.as_bytes(), size, &mut out)?;
+            assert_eq!(rt; out.as_str(), want, "of {text} by {size}");
+        }
+    }
+    Ok(())
+}
+
+#[test]
+fn a_text_goes_on_until_it_is_finished(rt: HostRuntime) -> Result<(), Fail> {
     let mut reader = Reader::new(rt.alloc());
     let mut out = String::new(rt.alloc());
     reader.feed(b"(check)(assert p")?;
     assert!(rt; !drain(&mut reader, &mut out)?);
-    reader.feed(b"q)")?;
-    assert!(rt; !drain(&mut reader, &mut out)?);
-    assert_eq!(rt; out.as_str(), "1:1 check; 1:8 assert pq@1:16; ");
-    Ok(())
-}
-
-/// A formula under so many negations, with one bracket more open than there are of them.
-fn feed_nested(reader: &mut Reader, negations: usize) -> Result<(), AllocError>
-    requires unfinished { reader.old.finished ≡ false }
-    requires empty { reader.old.fed ≡ [] }
-    requires small { negations < 10000 }
-{
-    reader.feed(b"(assert")?;
-    for i in 0..negations {
-        reader.feed(b"(not")?;
-    }
-    reader.feed(b" true")?;
-    for j in 0..negations {
-        reader.feed(b")")?;
-    }
-    reader.feed(b")")
-}
-
-#[test]
-fn the_limit_of_open_brackets_is_kept(rt: HostRuntime) -> Result<(), Fail> {
-    let mut reader = Reader::new(rt.alloc());
-    feed_nested(&mut reader, 4095)?;
-    assert!(rt; matches!(reader.next(), Ok(Some(_))));
-    assert!(rt; matches!(reader.next(), Ok(None)));
-    let mut deeper = Reader::new(rt.alloc());
-    feed_nested(&mut deeper, 4096)?;
-    assert!(rt; matches!(deeper.next(), Err(ReadError::NotBuilt)));
+    reader.feed(b"q) ) (check)")?;
+    assert!(rt; drain(&mut reader, &mut out)?);
+    assert!(rt; drain(&mut reader, &mut out)?);
+    assert_eq!(rt;
+        out.as_str(),
+        "1:1 check; 1:8 assert pq@1:16; 1:20: syntax Unexpected; 1:20: syntax Unexpected; "
+    );
     Ok(())
 }
