@@ -5,3 +5,4 @@ pub mod Evaluation
 pub mod Combining
 pub mod Collecting
 pub mod Solving
+pub mod Valuing

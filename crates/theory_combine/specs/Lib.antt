@@ -1,3 +1,4 @@
 pub mod Nodes
 pub mod Answers
 pub mod Search
+pub mod Values

@@ -1,8 +1,9 @@
-//! Decides lists of literals over numbered nodes.
+//! Decides lists of literals over numbered nodes, and evaluates nodes.
 //!
 //! A [`Problem`] is a list of nodes, each an operator over earlier nodes, so that a node's number
 //! stands for a tree. [`decide`] finds values of the constants under which every literal is true,
-//! or says that there are none.
+//! or says that there are none. [`values_under`] gives the value of each node where the constants
+//! have given values.
 #![tactic(auto)]
 
 ghost use Rattle.std.specs.Prelude.{◌≡◌, ℕ, ◌<◌, ◌≤◌, ◌+◌, [], ◌∷◌, ◌++◌, ◌↔◌, length, All, slice_get, IsTrue, IfOk, OnOk, OnErr, if◌then◌else◌, is_ok};
@@ -14,8 +15,10 @@ use std::marker::Model;
 use y_tree::{Sort, Value};
 
 mod search;
+mod values;
 
 pub use search::decide;
+pub use values::{ConstValues, constant_values, values_under};
 
 /// A list of numbers: of nodes, or of places in another list.
 #[derive(Debug, Drop)]
