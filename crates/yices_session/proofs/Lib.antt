@@ -1,4 +1,5 @@
 pub mod PlainLaws
-pub mod Names
+pub mod Lookups
 pub mod Nodes
 pub mod Sessions
+pub mod Showing

@@ -1,65 +1,103 @@
 -- Nodes for expressions: what was built stays, and stands for the expression.
-use Rattle.std.proofs.Common.{ℕ, zero, suc, ◌≡◌, ◌<◌, ◌≤◌, ◌+◌, ◌∙◌, List, [], ◌∷◌, ◌++◌, Option, Some, None, Result, Ok, Err, length, map, take, drop, refl, sym, ap, arith, append_assoc, append-nil, length-append, get_or, subst, inl, inr, ◌⊎◌}
+use Rattle.std.proofs.Common.{ℕ, zero, suc, ◌≡◌, ◌<◌, ◌≤◌, ◌+◌, ◌∙◌, List, [], ◌∷◌, ◌++◌, Option, Some, None, Result, Ok, Err, length, map, take, drop, Bool, true, false, cond, refl, sym, ap, arith, append_assoc, append-nil, length-append, get_or, subst, inl, inr, ◌⊎◌}
 use Rattle.std.proofs.lemmas.List.{at_drop_more, at_drop_all}
-use Rattle.std.specs.Prelude.{codes}
+use Rattle.std.specs.Prelude.{codes, ◌==◌, nat_lt}
+use Rattle.std.proofs.lemmas.Bool.{eqb-true}
 use Rattle.std.specs.List.{AllByRecursion}
-use Rattle.y_tree.specs.Tree.{Op as Operator, truth, falsity, Tree, Trees, node, trees}
+use Rattle.std.specs.Str.{bytes_eq}
+use Rattle.y_tree.specs.declared.Sort.{Sort}
+use Rattle.y_tree.specs.Tree.{constant, negation, conjunction, disjunction, Tree, Trees, node, trees}
 use Rattle.y_tree.specs.Tree as tree
 use Rattle.theory_combine.specs.declared.Node.{Node}
 use Rattle.theory_combine.specs.declared.Node.TheVariants as node_of
 use Rattle.theory_combine.specs.Nodes.{tree_at, op_of, arguments_of}
 use Rattle.theory_combine.proofs.TreeLaws.{tree_at_older, tree_at_new}
 use Rattle.yices_grammar.specs.declared.Place.{Place}
-use Rattle.yices_grammar.specs.Grammar.{Expr, Exprs, true_word, false_word, name, operation, Takes}
+use Rattle.yices_grammar.specs.Grammar.{Expr, Exprs, true_word, false_word, name, operation, exprs}
 use Rattle.yices_text.specs.declared.command.Expr as code
 use Rattle.yices_text.specs.declared.command.Expr.{out-Expr}
 use Rattle.yices_text.specs.declared.command.ExprForm.{Op}
 use Rattle.yices_session.proofs.PlainLaws.{plain_op}
 use Rattle.yices_text.specs.Plain.{plain}
-use Rattle.yices_text.specs.Machine.{exprs}
 use Rattle.yices_grammar.specs.Grammar as grammar
 use Rattle.yices_session.specs.declared.refusal.Stop.{Stop}
 use Rattle.yices_session.specs.declared.refusal.Stop.TheVariants as stop
-use Rattle.yices_session.specs.State.{Named, Unknown, known, join, over, op_named, tree_named, tree_of, trees_of}
-use Rattle.yices_session.specs.Held.{names_in, named_in}
-use Rattle.yices_session.specs.Building.{AreNamed, Extends, Builds, BuildsAll, BuildsSome, Finds, IsUnbuilt, in_front, IsWellFormed, AreWellFormed, TakesCount}
+use Rattle.yices_session.specs.State.{Named, Cause, known, join, over, op_named, takes, count, tree_named, tree_of, trees_of}
+use Rattle.yices_session.specs.Steps.{cause_in}
+use Rattle.yices_session.specs.Held.{names_in, named_in, NumberBelow}
+use Rattle.yices_session.specs.Building.{AreNamed, Extends, Builds, BuildsAll, BuildsSome, Finds, IsUnbuilt, in_front}
+use Rattle.yices_session.specs.declared.names.Binding.{Binding}
+use Rattle.yices_session.specs.declared.refusal.Refusal.TheVariants as refusal
+
+-- a larger bound
+number_below : (m n : ℕ) → m ≤ n → (x : Node) → NumberBelow m x → NumberBelow n x
+number_below m n le node_of.True h = tt
+number_below m n le node_of.False h = tt
+number_below m n le (node_of.Const number of) h = omega (arith, h, le)
+number_below m n le (node_of.Not a) h = tt
+number_below m n le (node_of.And args) h = tt
+number_below m n le (node_of.Or args) h = tt
+
+pub numbers_below : (m n : ℕ) → m ≤ n → (xs : List Node) → AllByRecursion (NumberBelow m) xs → AllByRecursion (NumberBelow n) xs
+numbers_below m n le [] h = tt
+numbers_below m n le (x ∷ xs) h = (number_below m n le x h.0, numbers_below m n le xs h.1)
+
+pub all-append : {X : Type 0} (P : X → Type 0) (xs ys : List X) → AllByRecursion P xs → AllByRecursion P ys → AllByRecursion P (xs ++ ys)
+all-append P [] ys h k = k
+all-append P (x ∷ xs) ys h k = (h.0, all-append P xs ys h.1 k)
 
 -- nothing was added
 pub extends_same : (old : List Node) → Extends old old
-extends_same old = record { added = []; is = sym (append-nil old) }
+extends_same old = record { added = []; is = sym (append-nil old); operators = tt }
 
 -- one node was added
-pub extends_one : (old new : List Node) (n : Node) → new ≡ old ++ n ∷ [] → Extends old new
-extends_one old new n is = record { added = n ∷ []; is = is }
+pub extends_one : (old new : List Node) (n : Node) → NumberBelow 0 n → new ≡ old ++ n ∷ [] → Extends old new
+extends_one old new n operator is = record { added = n ∷ []; is = is; operators = (operator, tt) }
 
 -- some, and then more
 pub extends_on : (old mid new : List Node) → Extends old mid → Extends mid new → Extends old new
-extends_on old mid new a b = record { added = a.added ++ b.added; is = b.is ∙ ap (λ x. x ++ b.added) a.is ∙ append_assoc old a.added b.added }
+extends_on old mid new a b = record {
+  added = a.added ++ b.added;
+  is = b.is ∙ ap (λ x. x ++ b.added) a.is ∙ append_assoc old a.added b.added;
+  operators = all-append (NumberBelow 0) a.added b.added a.operators b.operators;
+}
 
-pub length_grows : (old new : List Node) → Extends old new → length old ≤ length new
+-- constants are the same
+pub constants_on : (n : ℕ) (old new : List Node) → Extends old new → AllByRecursion (NumberBelow n) old → AllByRecursion (NumberBelow n) new
+constants_on n old new e h = rw e.is (all-append (NumberBelow n) old e.added h (numbers_below 0 n (omega arith) e.added e.operators))
+
+-- nodes were added behind the old ones
+pub record Longer (old new : List Node) : Type 0 where
+  pub added : List Node
+  pub is : new ≡ old ++ added
+
+pub longer : {old new : List Node} → Extends old new → Longer old new
+longer e = record { added = e.added; is = e.is }
+
+pub length_grows : (old new : List Node) → Longer old new → length old ≤ length new
 length_grows old new e = omega (arith, ap length e.is, length-append old e.added)
 
 -- the trees of older nodes stay
-pub tree_stays : (old new : List Node) → Extends old new → (k : ℕ) → k < length old → tree_at new k ≡ tree_at old k
+pub tree_stays : (old new : List Node) → Longer old new → (k : ℕ) → k < length old → tree_at new k ≡ tree_at old k
 tree_stays old new e k h = ap (λ ns. tree_at ns k) e.is ∙ tree_at_older old e.added k h
 
-pub within_on : (old new : List Node) → Extends old new → (ks : List ℕ) → AllByRecursion (λ k. k < length old) ks → AllByRecursion (λ k. k < length new) ks
+pub within_on : (old new : List Node) → Longer old new → (ks : List ℕ) → AllByRecursion (λ k. k < length old) ks → AllByRecursion (λ k. k < length new) ks
 within_on old new e [] h = h
 within_on old new e (k ∷ ks) h = (omega (arith, h.0, length_grows old new e), within_on old new e ks h.1)
 
-pub trees_stay : (old new : List Node) → Extends old new → (ks : List ℕ) → AllByRecursion (λ k. k < length old) ks → map (tree_at new) ks ≡ map (tree_at old) ks
+pub trees_stay : (old new : List Node) → Longer old new → (ks : List ℕ) → AllByRecursion (λ k. k < length old) ks → map (tree_at new) ks ≡ map (tree_at old) ks
 trees_stay old new e [] h = refl
 trees_stay old new e (k ∷ ks) h = ap (λ t. t ∷ map (tree_at new) ks) (tree_stays old new e k h.0) ∙ ap (λ ts. tree_at old k ∷ ts) (trees_stay old new e ks h.1)
 
-pub named_on : (old new : List Node) → Extends old new → (ns : List (List ℕ × ℕ)) → AreNamed ns old → AreNamed ns new
+pub named_on : (old new : List Node) → Longer old new → (ns : List (List ℕ × Binding)) → AreNamed ns old → AreNamed ns new
 named_on old new e [] h = h
 named_on old new e (n ∷ ns) h = (omega (arith, h.0, length_grows old new e), named_on old new e ns h.1)
 
 -- the names stand for what they stood for
-pub names_stay : (old new : List Node) → Extends old new → (ns : List (List ℕ × ℕ)) → AreNamed ns old → names_in new ns ≡ names_in old ns
+pub names_stay : (old new : List Node) → Longer old new → (ns : List (List ℕ × Binding)) → AreNamed ns old → names_in new ns ≡ names_in old ns
 names_stay old new e [] h = refl
 names_stay old new e (n ∷ ns) h =
-    ap (λ t. record { name = n.0; tree = t; has_value = Rattle.std.proofs.Common.false } ∷ names_in new ns) (tree_stays old new e n.1 h.0)
+    ap (λ t. let x : Named = record { name = n.0; tree = t; has_value = n.1.has_value; is_constant = Rattle.std.proofs.Common.false } in x ∷ names_in new ns) (tree_stays old new e n.1.node h.0)
     ∙ ap (λ rest. named_in old n ∷ rest) (names_stay old new e ns h.1)
 
 -- the tree of a node without arguments
@@ -70,25 +108,25 @@ leaf old new n k none is here =
 pub new_within : (old new : List Node) (n : Node) (k : ℕ) → new ≡ old ++ n ∷ [] → k ≡ length old → k < length new
 new_within old new n k is here = omega (arith, ap length is, length-append old (n ∷ []), here)
 
-pub built_true : (ns : List (List ℕ × ℕ)) (old new : List Node) (e : Expr) (at : Place) (k : ℕ)
+pub built_true : (ns : List (List ℕ × Binding)) (old new : List Node) (e : Expr) (at : Place) (k : ℕ)
     → e ≡ true_word at → new ≡ old ++ node_of.True ∷ [] → k ≡ length old → Builds ns old new e k
 unfolding tree_of
 built_true ns old new e at k form is here = record {
-  extends = extends_one old new node_of.True is;
+  extends = extends_one old new node_of.True tt is;
   within = new_within old new node_of.True k is here;
   tree = ap (tree_of (names_in old ns)) form ∙ ap Ok (sym (leaf old new node_of.True k refl is here));
 }
 
-pub built_false : (ns : List (List ℕ × ℕ)) (old new : List Node) (e : Expr) (at : Place) (k : ℕ)
+pub built_false : (ns : List (List ℕ × Binding)) (old new : List Node) (e : Expr) (at : Place) (k : ℕ)
     → e ≡ false_word at → new ≡ old ++ node_of.False ∷ [] → k ≡ length old → Builds ns old new e k
 unfolding tree_of
 built_false ns old new e at k form is here = record {
-  extends = extends_one old new node_of.False is;
+  extends = extends_one old new node_of.False tt is;
   within = new_within old new node_of.False k is here;
   tree = ap (tree_of (names_in old ns)) form ∙ ap Ok (sym (leaf old new node_of.False k refl is here));
 }
 
-pub built_name : (ns : List (List ℕ × ℕ)) (old : List Node) (e : Expr) (at : Place) (w : List ℕ) (k : ℕ)
+pub built_name : (ns : List (List ℕ × Binding)) (old : List Node) (e : Expr) (at : Place) (w : List ℕ) (k : ℕ)
     → e ≡ name at w → Finds ns old at w k → Builds ns old old e k
 unfolding tree_of
 built_name ns old e at w k form found = record {
@@ -97,35 +135,80 @@ built_name ns old e at w k form found = record {
   tree = ap (tree_of (names_in old ns)) form ∙ found.tree;
 }
 
-pub unbuilt_name : (ns : List (List ℕ × ℕ)) (old : List Node) (e : Expr) (at : Place) (w : List ℕ) (s : Stop)
+pub unbuilt_name : (ns : List (List ℕ × Binding)) (old : List Node) (e : Expr) (at : Place) (w : List ℕ) (s : Stop)
     → e ≡ name at w → IsUnbuilt (known at w (tree_named (names_in old ns) w)) s → IsUnbuilt (tree_of (names_in old ns) e) s
 unfolding tree_of
 unbuilt_name ns old e at w s form u = rw form u
 
-pub built_op : (ns : List (List ℕ × ℕ)) (old mid new : List Node) (e : Expr) (at : Place) (w : List ℕ) (es : Exprs) (ks : List ℕ) (n : Node) (k : ℕ)
-    → e ≡ operation at w es → BuildsAll ns old mid es ks → op_of n ≡ op_named w → arguments_of n ≡ ks → new ≡ mid ++ n ∷ [] → k ≡ length mid → Builds ns old new e k
+-- a list of trees is as long as its numbers
+pub length_mapped : {A B : Type 0} (f : A → B) (xs : List A) → length (map f xs) ≡ length xs
+length_mapped f [] = refl
+length_mapped f (x ∷ xs) = ap suc (length_mapped f xs)
+
+count-trees : (ts : List Tree) → count (trees ts) ≡ length ts
+count-trees [] = refl
+count-trees (t ∷ ts) = ap suc (count-trees ts)
+
+counted : (new : List Node) (ks : List ℕ) → count (trees (map (tree_at new) ks)) ≡ length ks
+counted new ks = count-trees (map (tree_at new) ks) ∙ length_mapped (tree_at new) ks
+
+over_taken : (at : Place) (w : List ℕ) (ts : Trees) (n : ℕ) → count ts ≡ n → takes w n ≡ true → over at w (Ok ts) ≡ Ok (node (op_named w) ts)
+over_taken at w ts n same takes_so = rw (same, takes_so) refl
+
+over_not_taken : (at : Place) (w : List ℕ) (ts : Trees) (n : ℕ) → count ts ≡ n → takes w n ≡ false → over at w (Ok ts) ≡ Err (record { place = at; refusal = refusal.BadArity n })
+over_not_taken at w ts n same takes_not = rw (same, takes_not) refl
+
+-- `not` takes one argument
+pub takes_one : (w v : List ℕ) (b : Bool) (n : ℕ) → v ≡ w → b ≡ bytes_eq v (codes "not") → b ≡ true → takes w n ≡ true → n ≡ 1
+takes_one w v b n same test set takes_so =
+    let is : bytes_eq w (codes "not") ≡ true = ap (λ x. bytes_eq x (codes "not")) (sym same) ∙ sym test ∙ set in
+    eqb-true n 1 (ap (λ t. cond t (n == 1) (nat_lt 0 n)) (sym is) ∙ takes_so)
+
+-- no operator is a constant
+no_constant : (a b : Bool) (number : ℕ) (of : Sort) → constant number of ≡ cond a negation (cond b conjunction disjunction) → ⊥
+no_constant true b number of is = absurd (cc is)
+no_constant false true number of is = absurd (cc is)
+no_constant false false number of is = absurd (cc is)
+
+operator_node : (n : Node) (w : List ℕ) → op_of n ≡ op_named w → NumberBelow 0 n
+operator_node node_of.True w is = tt
+operator_node node_of.False w is = tt
+operator_node (node_of.Const number of) w is = absurd (no_constant (bytes_eq w (codes "not")) (bytes_eq w (codes "and")) number of is)
+operator_node (node_of.Not a) w is = tt
+operator_node (node_of.And args) w is = tt
+operator_node (node_of.Or args) w is = tt
+
+pub built_op : (ns : List (List ℕ × Binding)) (old mid new : List Node) (e : Expr) (at : Place) (w : List ℕ) (es : Exprs) (ks : List ℕ) (n : Node) (k : ℕ)
+    → e ≡ operation at w es → BuildsAll ns old mid es ks → takes w (length ks) ≡ true → op_of n ≡ op_named w → arguments_of n ≡ ks → new ≡ mid ++ n ∷ [] → k ≡ length mid → Builds ns old new e k
 unfolding tree_of
-built_op ns old mid new e at w es ks n k form all op args is here = record {
-  extends = extends_on old mid new all.extends (extends_one mid new n is);
+built_op ns old mid new e at w es ks n k form all takes_so op args is here = record {
+  extends = extends_on old mid new all.extends (extends_one mid new n (operator_node n w op) is);
   within = new_within mid new n k is here;
   tree =
-      ap (tree_of (names_in old ns)) form ∙ ap (over (op_named w)) all.trees
+      ap (tree_of (names_in old ns)) form ∙ ap (over at w) all.trees
+      ∙ over_taken at w (trees (map (tree_at mid) ks)) (length ks) (counted mid ks) takes_so
       ∙ ap Ok (sym (ap (λ x. tree_at x k) is ∙ ap (tree_at (mid ++ n ∷ [])) here ∙ tree_at_new mid n
       ∙ ap (λ xs. node (op_of n) (trees (map (tree_at mid) xs))) args ∙ ap (λ o. node o (trees (map (tree_at mid) ks))) op));
 }
 
-over_unbuilt : (op : Operator) (r : Result Trees Unknown) (s : Stop) → IsUnbuilt r s → IsUnbuilt (over op r) s
-over_unbuilt op (Ok ts) stop.NoMemory u = tt
-over_unbuilt op (Err x) stop.NoMemory u = tt
-over_unbuilt op (Ok ts) (stop.Refused at why) u = absurd u
-over_unbuilt op (Err x) (stop.Refused at why) u = u
+-- the wrong number of arguments
+pub unbuilt_arity : (ns : List (List ℕ × Binding)) (old mid : List Node) (e : Expr) (at : Place) (w : List ℕ) (es : Exprs) (ks : List ℕ) (n : ℕ)
+    → e ≡ operation at w es → BuildsAll ns old mid es ks → n ≡ length ks → takes w n ≡ false → IsUnbuilt (tree_of (names_in old ns) e) (stop.Refused at (refusal.BadArity n))
+unfolding tree_of
+unbuilt_arity ns old mid e at w es ks n form all same takes_not =
+    ap cause_in (ap (tree_of (names_in old ns)) form ∙ ap (over at w) all.trees ∙ over_not_taken at w (trees (map (tree_at mid) ks)) n (counted mid ks ∙ sym same) takes_not)
 
-pub unbuilt_op : (ns : List (List ℕ × ℕ)) (old : List Node) (e : Expr) (at : Place) (w : List ℕ) (es : Exprs) (s : Stop)
+over_unbuilt : (at : Place) (w : List ℕ) (r : Result Trees Cause) (s : Stop) → IsUnbuilt r s → IsUnbuilt (over at w r) s
+over_unbuilt at w r stop.NoMemory u = tt
+over_unbuilt at w (Ok ts) (stop.Refused here why) u = absurd (cc u)
+over_unbuilt at w (Err x) (stop.Refused here why) u = u
+
+pub unbuilt_op : (ns : List (List ℕ × Binding)) (old : List Node) (e : Expr) (at : Place) (w : List ℕ) (es : Exprs) (s : Stop)
     → e ≡ operation at w es → IsUnbuilt (trees_of (names_in old ns) es) s → IsUnbuilt (tree_of (names_in old ns) e) s
 unfolding tree_of
-unbuilt_op ns old e at w es s form u = rw form (over_unbuilt (op_named w) (trees_of (names_in old ns) es) s u)
+unbuilt_op ns old e at w es s form u = rw form (over_unbuilt at w (trees_of (names_in old ns) es) s u)
 
-in_front_unknown : (ts : List Tree) (u : Unknown) → in_front ts (Err u) ≡ Err u
+in_front_unknown : (ts : List Tree) (u : Cause) → in_front ts (Err u) ≡ Err u
 in_front_unknown [] u = refl
 in_front_unknown (t ∷ ts) u = ap (join (Ok t)) (in_front_unknown ts u)
 
@@ -133,7 +216,7 @@ in_front_all : (ts : List Tree) → in_front ts (Ok tree.none) ≡ Ok (trees ts)
 in_front_all [] = refl
 in_front_all (t ∷ ts) = ap (join (Ok t)) (in_front_all ts)
 
-in_front_more : (ts : List Tree) (t : Tree) (r : Result Trees Unknown) → in_front (ts ++ t ∷ []) r ≡ in_front ts (join (Ok t) r)
+in_front_more : (ts : List Tree) (t : Tree) (r : Result Trees Cause) → in_front (ts ++ t ∷ []) r ≡ in_front ts (join (Ok t) r)
 in_front_more [] t r = refl
 in_front_more (x ∷ ts) t r = ap (join (Ok x)) (in_front_more ts t r)
 
@@ -150,29 +233,29 @@ left_at : (xs : List code.Expr) (i : ℕ) (x : code.Expr) → i < length xs → 
     → exprs (map plain (drop i xs)) ≡ grammar.more (plain x) (exprs (map plain (drop (i + 1) xs)))
 left_at xs i x h is = at_drop_more (λ r. exprs (map plain r)) xs i x h ∙ ap (λ y. grammar.more (plain y) (exprs (map plain (drop (i + 1) xs)))) (sym is)
 
-pub some_start : (ns : List (List ℕ × ℕ)) (old : List Node) (es : Exprs) → BuildsSome ns old old es es []
+pub some_start : (ns : List (List ℕ × Binding)) (old : List Node) (es : Exprs) → BuildsSome ns old old es es []
 some_start ns old es = record { extends = extends_same old; within = tt; trees = refl }
 
-pub some_more : (ns : List (List ℕ × ℕ)) (old mid new : List Node) (xs : List code.Expr) (i : ℕ) (x : code.Expr) (ks : List ℕ) (k : ℕ)
+pub some_more : (ns : List (List ℕ × Binding)) (old mid new : List Node) (xs : List code.Expr) (i : ℕ) (x : code.Expr) (ks : List ℕ) (k : ℕ)
     → AreNamed ns old → i < length xs → x ≡ get_or xs i x
     → BuildsSome ns old mid (exprs (map plain xs)) (exprs (map plain (drop i xs))) ks → Builds ns mid new (plain x) k
     → BuildsSome ns old new (exprs (map plain xs)) (exprs (map plain (drop (i + 1) xs))) (ks ++ k ∷ [])
 unfolding trees_of
 some_more ns old mid new xs i x ks k named h is some one =
-    let rest : Result Trees Unknown = trees_of (names_in old ns) (exprs (map plain (drop (i + 1) xs))) in
-    let first : tree_of (names_in old ns) (plain x) ≡ Ok (tree_at new k) = ap (λ names. tree_of names (plain x)) (sym (names_stay old mid some.extends ns named)) ∙ one.tree in
+    let rest : Result Trees Cause = trees_of (names_in old ns) (exprs (map plain (drop (i + 1) xs))) in
+    let first : tree_of (names_in old ns) (plain x) ≡ Ok (tree_at new k) = ap (λ names. tree_of names (plain x)) (sym (names_stay old mid (longer some.extends) ns named)) ∙ one.tree in
     record {
       extends = extends_on old mid new some.extends one.extends;
-      within = within_push (length new) ks k (within_on mid new one.extends ks some.within) one.within;
+      within = within_push (length new) ks k (within_on mid new (longer one.extends) ks some.within) one.within;
       trees = some.trees
           ∙ ap (λ es. in_front (map (tree_at mid) ks) (trees_of (names_in old ns) es)) (left_at xs i x h is)
           ∙ ap (λ t. in_front (map (tree_at mid) ks) (join t rest)) first
-          ∙ ap (λ ts. in_front ts (join (Ok (tree_at new k)) rest)) (sym (trees_stay mid new one.extends ks some.within))
+          ∙ ap (λ ts. in_front ts (join (Ok (tree_at new k)) rest)) (sym (trees_stay mid new (longer one.extends) ks some.within))
           ∙ sym (in_front_more (map (tree_at new) ks) (tree_at new k) rest)
           ∙ ap (λ ts. in_front ts rest) (sym (map-push (tree_at new) ks k));
     }
 
-pub some_all : (ns : List (List ℕ × ℕ)) (old new : List Node) (xs : List code.Expr) (i : ℕ) (ks : List ℕ) → length xs ≤ i
+pub some_all : (ns : List (List ℕ × Binding)) (old new : List Node) (xs : List code.Expr) (i : ℕ) (ks : List ℕ) → length xs ≤ i
     → BuildsSome ns old new (exprs (map plain xs)) (exprs (map plain (drop i xs))) ks → BuildsAll ns old new (exprs (map plain xs)) ks
 unfolding trees_of
 some_all ns old new xs i ks h some = record {
@@ -183,12 +266,12 @@ some_all ns old new xs i ks h some = record {
       ∙ in_front_all (map (tree_at new) ks);
 }
 
-stop_there : (ts : List Tree) (r : Result Tree Unknown) (rest : Result Trees Unknown) (s : Stop) → IsUnbuilt r s → IsUnbuilt (in_front ts (join r rest)) s
-stop_there ts (Ok t) rest (stop.Refused at why) u = absurd u
-stop_there ts (Err x) rest (stop.Refused at why) u = rw (in_front_unknown ts x) u
+stop_there : (ts : List Tree) (r : Result Tree Cause) (rest : Result Trees Cause) (s : Stop) → IsUnbuilt r s → IsUnbuilt (in_front ts (join r rest)) s
 stop_there ts r rest stop.NoMemory u = tt
+stop_there ts (Ok t) rest (stop.Refused at why) u = absurd (cc u)
+stop_there ts (Err x) rest (stop.Refused at why) u = rw (in_front_unknown ts x) u
 
-pub some_stop : (ns : List (List ℕ × ℕ)) (old mid : List Node) (xs : List code.Expr) (i : ℕ) (x : code.Expr) (ks : List ℕ) (s : Stop)
+pub some_stop : (ns : List (List ℕ × Binding)) (old mid : List Node) (xs : List code.Expr) (i : ℕ) (x : code.Expr) (ks : List ℕ) (s : Stop)
     → AreNamed ns old → i < length xs → x ≡ get_or xs i x
     → BuildsSome ns old mid (exprs (map plain xs)) (exprs (map plain (drop i xs))) ks → IsUnbuilt (tree_of (names_in mid ns) (plain x)) s
     → IsUnbuilt (trees_of (names_in old ns) (exprs (map plain xs))) s
@@ -196,81 +279,15 @@ unfolding trees_of
 some_stop ns old mid xs i x ks s named h is some u =
     rw (some.trees, left_at xs i x h is)
     (stop_there (map (tree_at mid) ks) (tree_of (names_in old ns) (plain x)) (trees_of (names_in old ns) (exprs (map plain (drop (i + 1) xs)))) s
-    (subst (λ names. IsUnbuilt (tree_of names (plain x)) s) (names_stay old mid some.extends ns named) u))
-
-pub whole_op : (e : Expr) (at : Place) (w : List ℕ) (es : Exprs) → e ≡ operation at w es → IsWellFormed e → Takes w es × AreWellFormed es
-unfolding IsWellFormed
-whole_op e at w es form whole = subst IsWellFormed form whole
-
-pub whole_at : (xs : List code.Expr) (i : ℕ) (x : code.Expr) → i < length xs → x ≡ get_or xs i x → AreWellFormed (exprs (map plain xs)) → IsWellFormed (plain x)
-unfolding IsWellFormed
-whole_at [] i x h is whole = absurd (omega (arith, h))
-whole_at (y ∷ xs) zero x h is whole = subst (λ z. IsWellFormed (plain z)) (sym is) whole.0
-whole_at (y ∷ xs) (suc i) x h is whole = whole_at xs i x (omega (arith, h)) is whole.1
-
-pub length_mapped : {A B : Type 0} (f : A → B) (xs : List A) → length (map f xs) ≡ length xs
-length_mapped f [] = refl
-length_mapped f (x ∷ xs) = ap suc (length_mapped f xs)
-
--- as many numbers as expressions
-count : Exprs → ℕ
-count grammar.none = 0
-count (grammar.more e es) = suc (count es)
-
-length_of : Trees → ℕ
-length_of tree.none = 0
-length_of (tree.more t ts) = suc (length_of ts)
-
-length_of-trees : (ts : List Tree) → length_of (trees ts) ≡ length ts
-unfolding length_of
-length_of-trees [] = refl
-length_of-trees (t ∷ ts) = ap suc (length_of-trees ts)
-
--- the number of trees, where there are trees
-counted : Result Trees Unknown → ℕ → Type 0
-counted (Ok ts) n = length_of ts ≡ n
-counted (Err u) n = Unit {0}
-
-counted_join : (r : Result Tree Unknown) (rest : Result Trees Unknown) (n : ℕ) → counted rest n → counted (join r rest) (suc n)
-unfolding counted length_of
-counted_join (Err u) rest n h = tt
-counted_join (Ok t) (Err u) n h = tt
-counted_join (Ok t) (Ok ts) n h = ap suc h
-
-trees_counted : (names : List Named) (es : Exprs) → counted (trees_of names es) (count es)
-unfolding trees_of count counted length_of
-trees_counted names grammar.none = refl
-trees_counted names (grammar.more e es) = counted_join (tree_of names e) (trees_of names es) (count es) (trees_counted names es)
-
-all_counted : (ns : List (List ℕ × ℕ)) (old new : List Node) (es : Exprs) (ks : List ℕ) → BuildsAll ns old new es ks → length ks ≡ count es
-unfolding counted
-all_counted ns old new es ks all =
-    let is : length_of (trees (map (tree_at new) ks)) ≡ count es = subst (λ r. counted r (count es)) all.trees (trees_counted (names_in old ns) es) in
-    sym (length_mapped (tree_at new) ks) ∙ sym (length_of-trees (map (tree_at new) ks)) ∙ is
-
-not_junction : (w : List ℕ) → (w ≡ codes "and") ⊎ (w ≡ codes "or") → w ≡ codes "not" → ⊥
-not_junction w (inl a) n = let first : 110 ≡ 97 = ap (λ bs. get_or bs 0 0) (sym n ∙ a) in omega (arith, first)
-not_junction w (inr o) n = let first : 110 ≡ 111 = ap (λ bs. get_or bs 0 0) (sym n ∙ o) in omega (arith, first)
-
-takes_count : (w : List ℕ) (es : Exprs) → Takes w es → TakesCount w (count es)
-unfolding count
-takes_count w grammar.none h = absurd h
-takes_count w (grammar.more e grammar.none) h = record { some = omega arith; one = λ _. refl }
-takes_count w (grammar.more e (grammar.more f es)) h = record { some = omega arith; one = λ n. absurd (not_junction w h n) }
-
-pub takes_numbers : (ns : List (List ℕ × ℕ)) (old new : List Node) (w : List ℕ) (es : Exprs) (ks : List ℕ) → BuildsAll ns old new es ks → Takes w es → TakesCount w (length ks)
-takes_numbers ns old new w es ks all takes = subst (TakesCount w) (sym (all_counted ns old new es ks all)) (takes_count w es takes)
+    (subst (λ names. IsUnbuilt (tree_of names (plain x)) s) (names_stay old mid (longer some.extends) ns named) u))
 
 pub only_one : (xs : List ℕ) (d : ℕ) → length xs ≡ 1 → get_or xs 0 d ∷ [] ≡ xs
 only_one [] d h = absurd (cc h)
 only_one (x ∷ []) d h = refl
 only_one (x ∷ y ∷ xs) d h = absurd (omega (arith, h))
 
-pub arguments_whole : (e : code.Expr) (w : List ℕ) (xs ys : List code.Expr) → (out-Expr e).form ≡ Op w xs → ys ≡ xs → IsWellFormed (plain e) → AreWellFormed (exprs (map plain ys))
-arguments_whole e w xs ys form same whole = rw same (whole_op (plain e) _ _ _ (plain_op e w xs form) whole).1
-
-pub some_named : (ns : List (List ℕ × ℕ)) (old new : List Node) (es rest : Exprs) (ks : List ℕ) → BuildsSome ns old new es rest ks → AreNamed ns old → AreNamed ns new
-some_named ns old new es rest ks some named = named_on old new some.extends ns named
+pub some_named : (ns : List (List ℕ × Binding)) (old new : List Node) (es rest : Exprs) (ks : List ℕ) → BuildsSome ns old new es rest ks → AreNamed ns old → AreNamed ns new
+some_named ns old new es rest ks some named = named_on old new (longer some.extends) ns named
 
 -- how many parts an expression has
 mutual

@@ -4,7 +4,7 @@ use Rattle.yices_grammar.specs.declared.Place.{Place}
 use Rattle.yices_grammar.specs.Grammar as grammar
 use Rattle.yices_text.specs.declared.command.Expr.{Expr, out-Expr, fold_out-Expr}
 use Rattle.yices_text.specs.declared.command.ExprForm.{True, False, Name, Op}
-use Rattle.yices_text.specs.Machine.{exprs}
+use Rattle.yices_grammar.specs.Grammar.{exprs}
 use Rattle.yices_text.specs.Plain.{plain, plain_form, form_layer, expr_layer}
 use Rattle.yices_text.specs.Codes.{plain_form-True, plain_form-False, plain_form-Name, plain_form-Op}
 

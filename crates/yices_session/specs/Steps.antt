@@ -1,84 +1,169 @@
 -- What a command does to a session, what it replies, and when it is refused.
-use Rattle.std.specs.Prelude.{◌≡◌, ℕ, false, List, [], ◌∷◌, ◌++◌, Option, Some, None, Result, Ok, Err, ◌⊎◌, codes, length, is_some, if◌then◌else◌}
+use Rattle.std.specs.Prelude.{◌≡◌, ℕ, ◌<◌, ◌-◌, true, false, List, [], ◌∷◌, ◌++◌, Option, Some, None, Result, Ok, Err, ◌⊎◌, codes, drop, length, is_some, nat_le, ◌==◌, if◌then◌else◌}
+use Rattle.std.specs.List.{AllByRecursion}
 use Rattle.y_tree.specs.declared.Sort.TheVariants as sort
 use Rattle.y_tree.specs.Tree.{constant, Tree, node}
 use Rattle.y_tree.specs.Tree as tree
-use Rattle.y_tree.specs.Meaning.{Assignment, Satisfies, IsUnsatisfiable}
+use Rattle.y_tree.specs.Meaning.{Assignment, Satisfies}
 use Rattle.yices_grammar.specs.declared.Place.{Place}
 use Rattle.yices_grammar.specs.Tokens.{Token}
-use Rattle.yices_grammar.specs.Grammar.{Expr, Action, Command, declare, assert, check, SpellsCommand}
-use Rattle.yices_session.specs.declared.refusal.Refusal.{Refusal}
+use Rattle.yices_grammar.specs.Grammar.{Expr, Action, Command, declare, define, assert, check, push, pop, reset, show_model, eval, echo, exit, SpellsCommand}
 use Rattle.yices_session.specs.declared.refusal.Refusal.TheVariants as refusal
-use Rattle.yices_session.specs.State.{State, Unknown, tree_named, tree_of}
+use Rattle.yices_session.specs.State.{Named, State, Cause, tree_named, tree_of}
+use Rattle.yices_session.specs.Replies.{model_text, value_reply}
 
--- an assignment that makes every formula true
-pub record Model (formulas : List Tree) : Type 0 where
-  pub values : Assignment
-  pub satisfies : Satisfies values formulas
+-- the assignment makes each formula of each list true
+abbrev pub Holds : List (List Tree) → Assignment → Type 0
+Holds [] s = Unit {0}
+Holds (ts ∷ lists) s = Satisfies s ts × Holds lists s
 
--- the reply to a check: `sat` where there is a model of the formulas, `unsat` where there is none
-abbrev pub IsVerdict : List Tree → List ℕ → Type 0
-IsVerdict formulas reply = ((reply ≡ codes "sat\n") × Model formulas) ⊎ ((reply ≡ codes "unsat\n") × IsUnsatisfiable formulas)
+-- how many levels are open: one less than there are lists
+abbrev pub level_of : State → ℕ
+level_of s = length s.lists - 1
 
--- the session with a name more, which stands for a new Boolean constant
-abbrev pub with_name : State → List ℕ → State
-with_name s w = record s { names = s.names ++ record { name = w; tree = node (constant (length s.names) sort.Bool) tree.none; has_value = false } ∷ [] }
+-- the tree of the constant that is declared next: it has the number of names before it
+abbrev pub next_constant : State → Tree
+next_constant s = node (constant (length s.names) sort.Bool) tree.none
 
--- the session with a formula more
-abbrev pub with_formula : State → Tree → State
-with_formula s t = record s { formulas = s.formulas ++ t ∷ [] }
+-- the session with a name more
+abbrev pub with_name : State → Named → State
+with_name s n = record s { names = s.names ++ n ∷ [] }
 
--- a new name is declared, without a reply
+-- a formula more at the end of the newest list
+abbrev pub added : Tree → List (List Tree) → List (List Tree)
+added t [] = (t ∷ []) ∷ []
+added t (ts ∷ lists) = (ts ++ t ∷ []) ∷ lists
+
+-- the session with these lists, where no model is kept
+abbrev pub with_lists : State → List (List Tree) → State
+with_lists s lists = record s { lists = lists; model = None }
+
+-- a new name is declared, without a reply; it stands for a new constant
 pub record Declares (old : State) (w reply : List ℕ) (new : State) : Type 0 where
   pub unused : tree_named old.names w ≡ None
   pub silent : reply ≡ []
-  pub after : new ≡ with_name old w
+  pub after : new ≡ with_name old (record { name = w; tree = next_constant old; has_value = false; is_constant = false })
 
--- a formula whose names are all known is asserted, without a reply
+-- a new name is defined, without a reply; it stands for the expression
+pub record Defines (old : State) (w : List ℕ) (e : Expr) (reply : List ℕ) (new : State) : Type 0 where
+  pub unused : tree_named old.names w ≡ None
+  pub value : Tree
+  pub known : tree_of old.names e ≡ Ok value
+  pub silent : reply ≡ []
+  pub after : new ≡ with_name old (record { name = w; tree = value; has_value = true; is_constant = false })
+
+-- a formula is asserted at the newest level, without a reply
 pub record Asserts (old : State) (e : Expr) (reply : List ℕ) (new : State) : Type 0 where
   pub formula : Tree
   pub known : tree_of old.names e ≡ Ok formula
   pub silent : reply ≡ []
-  pub after : new ≡ with_formula old formula
+  pub after : new ≡ with_lists old (added formula old.lists)
 
--- the formulas are checked, and the session stays
-pub record Checks (old : State) (reply : List ℕ) (new : State) : Type 0 where
-  pub verdict : IsVerdict old.formulas reply
+-- a model of all formulas is found and kept; it has values of declared constants alone
+pub record FindsModel (old : State) (reply : List ℕ) (new : State) : Type 0 where
+  pub values : Assignment
+  pub holds : Holds old.lists values
+  pub declared : AllByRecursion (λ e. e.0 < length old.names) values
+  pub says : reply ≡ codes "sat\n"
+  pub after : new ≡ record old { model = Some values }
+
+-- no assignment makes all formulas true, and no model is kept
+pub record FindsNone (old : State) (reply : List ℕ) (new : State) : Type 0 where
+  pub never : (s : Assignment) → Holds old.lists s → ⊥
+  pub says : reply ≡ codes "unsat\n"
+  pub after : new ≡ record old { model = None }
+
+-- the formulas are checked
+abbrev pub Checks : State → List ℕ → State → Type 0
+Checks old reply new = FindsModel old reply new ⊎ FindsNone old reply new
+
+-- a level is opened, without a reply, where fewer than 65,536 are open
+pub record Pushes (old : State) (reply : List ℕ) (new : State) : Type 0 where
+  pub room : level_of old < 65536
+  pub silent : reply ≡ []
+  pub after : new ≡ with_lists old ([] ∷ old.lists)
+
+-- the newest level is taken away with its formulas, without a reply
+pub record Pops (old : State) (reply : List ℕ) (new : State) : Type 0 where
+  pub above : 0 < level_of old
+  pub silent : reply ≡ []
+  pub after : new ≡ with_lists old (drop 1 old.lists)
+
+-- all levels and formulas are taken away, without a reply; the names stay
+pub record Resets (old : State) (reply : List ℕ) (new : State) : Type 0 where
+  pub silent : reply ≡ []
+  pub after : new ≡ with_lists old ([] ∷ [])
+
+-- the kept model is printed
+pub record ShowsModel (old : State) (reply : List ℕ) (new : State) : Type 0 where
+  pub says : reply ≡ model_text old.model old.names
+  pub after : new ≡ old
+
+-- the value of an expression under the kept model is printed
+pub record Evaluates (old : State) (e : Expr) (reply : List ℕ) (new : State) : Type 0 where
+  pub term : Tree
+  pub known : tree_of old.names e ≡ Ok term
+  pub says : reply ≡ value_reply old.model term
+  pub after : new ≡ old
+
+-- the reply is that, and nothing changes
+pub record Says (bytes : List ℕ) (old : State) (reply : List ℕ) (new : State) : Type 0 where
+  pub says : reply ≡ bytes
   pub after : new ≡ old
 
 -- the session may answer the command so, and go on as the new one
 abbrev pub Step : State → Action → List ℕ → State → Type 0
 Step old (declare w type_at) reply new = Declares old w reply new
+Step old (define w type_at e) reply new = Defines old w e reply new
 Step old (assert e) reply new = Asserts old e reply new
 Step old check reply new = Checks old reply new
+Step old push reply new = Pushes old reply new
+Step old pop reply new = Pops old reply new
+Step old reset reply new = Resets old reply new
+Step old show_model reply new = ShowsModel old reply new
+Step old (eval e) reply new = Evaluates old e reply new
+Step old (echo bytes) reply new = Says bytes old reply new
+Step old exit reply new = Says [] old reply new
 
--- why a command is refused, with the place of the cause
-pub record Cause : Type 0 where
-  pub place : Place
-  pub refusal : Refusal
+-- what is wrong, if it is
+abbrev pub cause_in : {A : Type 0} → Result A Cause → Option Cause
+cause_in (Ok t) = None
+cause_in (Err c) = Some c
 
--- an unknown name, as a cause
-abbrev pub cause_of : Unknown → Cause
-cause_of u = record { place = u.place; refusal = refusal.UnknownName u.name }
+-- a name that is in use comes before what is wrong otherwise
+abbrev pub unless_used : State → Place → List ℕ → Option Cause → Option Cause
+unless_used s at w otherwise =
+    if is_some (tree_named s.names w) then Some (record { place = at; refusal = refusal.NameInUse w }) else otherwise
 
--- the first unknown name of an expression, as a cause
-abbrev pub unknown_cause : Result Tree Unknown → Option Cause
-unknown_cause (Ok t) = None
-unknown_cause (Err u) = Some (cause_of u)
+-- no level may be opened past 65,536
+abbrev pub at_top : State → Place → Option Cause
+at_top s at = if nat_le 65536 (level_of s) then Some (record { place = at; refusal = refusal.TooDeep }) else None
+
+-- no level may be taken away where none is open
+abbrev pub at_bottom : State → Place → Option Cause
+at_bottom s at = if level_of s == 0 then Some (record { place = at; refusal = refusal.BottomLevel }) else None
 
 -- why the session refuses the command, if it does
 abbrev pub refusal_of : State → Command → Option Cause
 refusal_of s c = cause c.action
   where
     cause : Action → Option Cause
-    cause (declare w type_at) = if is_some (tree_named s.names w) then Some (record { place = c.place; refusal = refusal.NameInUse w }) else None
-    cause (assert e) = unknown_cause (tree_of s.names e)
+    cause (declare w type_at) = unless_used s c.place w None
+    cause (define w type_at e) = unless_used s c.place w (cause_in (tree_of s.names e))
+    cause (assert e) = cause_in (tree_of s.names e)
     cause check = None
+    cause push = at_top s c.place
+    cause pop = at_bottom s c.place
+    cause reset = None
+    cause show_model = None
+    cause (eval e) = cause_in (tree_of s.names e)
+    cause (echo bytes) = None
+    cause exit = None
 
--- the session answers the commands with these replies, one after another
+-- the session answers the commands with these replies, one after another; none of them is `exit`
 abbrev pub Runs : State → List Command → List (List ℕ) → State → Type 0
 Runs old [] [] new = new ≡ old
-Runs old (c ∷ cs) (reply ∷ replies) new = (mid : State) × Step old c.action reply mid × Runs mid cs replies new
+Runs old (c ∷ cs) (reply ∷ replies) new = (c.action ≡ exit → ⊥) × ((mid : State) × Step old c.action reply mid × Runs mid cs replies new)
 Runs old [] (reply ∷ replies) new = ⊥
 Runs old (c ∷ cs) [] new = ⊥
 

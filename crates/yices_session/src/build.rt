@@ -1,17 +1,18 @@
 //! Builds the tree of an expression as nodes of a problem.
 
-ghost use Rattle.std.specs.Prelude.{◌≡◌, ℕ, ◌<◌, ◌++◌, ◌∷◌, [], List, Option, Some, None, length, map, IfOk, IfErr, OnOk, OnErr};
+ghost use Rattle.std.specs.Prelude.{◌≡◌, ℕ, ◌<◌, ◌++◌, ◌∷◌, [], List, Option, Some, None, true, length, map, IfOk, IfErr, OnOk, OnErr};
 ghost use Rattle.std.specs.List.{AllByRecursion};
 ghost use Rattle.theory_combine.specs.Nodes.{op_of, arguments_of, HasArity, IsFormed, Fits, tree_at};
+ghost use Rattle.yices_grammar.specs.Grammar.{exprs};
 ghost use Rattle.yices_text.specs.Plain.{plain};
-ghost use Rattle.yices_text.specs.Machine.{exprs};
-ghost use Rattle.yices_session.specs.State.{op_named, known, tree_of, trees_of, tree_named};
+ghost use Rattle.yices_session.specs.State.{op_named, takes, known, tree_of, trees_of, tree_named};
+ghost use Rattle.yices_session.specs.Bindings.{name_list};
 ghost use Rattle.yices_session.specs.Held.{names_in};
-ghost use Rattle.yices_session.specs.Building.{IsWellFormed, AreWellFormed, TakesCount, name_list, AreNamed, Extends, Builds, BuildsAll, Finds, IsUnbuilt};
+ghost use Rattle.yices_session.specs.Building.{AreNamed, Extends, Builds, BuildsAll, Finds, IsUnbuilt};
 ghost use Rattle.yices_session.specs.declared.refusal.Stop.TheVariants.{NoMemory};
 
+use crate::names::{Names, look_up};
 use crate::refusal::{Refusal, Stop};
-use indexmap::IndexMap;
 use std::alloc::Global;
 use theory_combine::{Node, Places, Problem};
 use y_io::Text;
@@ -22,12 +23,11 @@ use yices_text::{Expr, ExprForm, Place};
 #[cycle(build)]
 pub fn build(
     alloc: Global,
-    names: &IndexMap<String, usize>,
+    names: &Names,
     problem: &mut Problem,
     expr: &Expr,
 ) -> Result<usize, Stop>
-    requires named { AreNamed (name_list names.now.entries) problem.old }
-    requires whole { IsWellFormed (plain expr.now) }
+    requires { AreNamed (name_list names.now.entries) problem.old }
     ensures built { IfOk result (λ k. Builds (name_list names.now.entries) problem.old problem.new (plain expr.now) k) }
     ensures refused { IfErr result (IsUnbuilt (tree_of (names_in problem.old (name_list names.now.entries)) (plain expr.now))) }
     ensures kept { Extends problem.old problem.new }
@@ -47,6 +47,10 @@ pub fn build(
         }
         ExprForm::Op(op, arguments) => {
             let numbers = build_all(alloc, names, problem, arguments.as_slice())?;
+            let count = numbers.len();
+            if !has_arity(op, count) {
+                return Err(Stop::Refused(expr.place, Refusal::BadArity(count)));
+            }
             let number = add(problem, operation(op, numbers))?;
             Ok(number)
         }
@@ -57,12 +61,11 @@ pub fn build(
 #[cycle(build)]
 fn build_all(
     alloc: Global,
-    names: &IndexMap<String, usize>,
+    names: &Names,
     problem: &mut Problem,
     arguments: &[Expr],
 ) -> Result<Places, Stop>
-    requires named { AreNamed (name_list names.now.entries) problem.old }
-    requires whole { AreWellFormed (exprs (map plain arguments.now)) }
+    requires { AreNamed (name_list names.now.entries) problem.old }
     ensures built { IfOk result (λ ks. BuildsAll (name_list names.now.entries) problem.old problem.new (exprs (map plain arguments.now)) ks) }
     ensures refused { IfErr result (IsUnbuilt (trees_of (names_in problem.old (name_list names.now.entries)) (exprs (map plain arguments.now)))) }
     ensures kept { Extends problem.old problem.new }
@@ -80,15 +83,23 @@ fn keep(numbers: &mut Places, number: usize) -> Result<(), Stop>
     ensures ok { OnOk result (numbers.new ≡ numbers.old ++ number ∷ []) }
     ensures cause { IfErr result (λ e. e ≡ NoMemory) }
 {
-    match numbers.push(number) {
-        Ok(()) => Ok(()),
-        Err(_) => Err(Stop::NoMemory),
+    numbers.push(number)?;
+    Ok(())
+}
+
+// Whether the operator takes so many arguments.
+fn has_arity(op: &Text, count: usize) -> bool
+    ensures { result ≡ takes op.now count }
+{
+    if op.as_str() == "not" {
+        return count == 1;
     }
+    0 < count
 }
 
 // The node over these arguments.
 fn operation(op: &Text, arguments: Places) -> Node
-    requires { TakesCount op.now (length arguments) }
+    requires { takes op.now (length arguments) ≡ true }
     ensures operator { op_of result ≡ op_named op.now }
     ensures arguments { arguments_of result ≡ arguments }
     ensures arity { HasArity result }
@@ -104,7 +115,7 @@ fn operation(op: &Text, arguments: Places) -> Node
     Node::Or(arguments)
 }
 
-// Adds a node.
+/// Adds a node.
 pub fn add(problem: &mut Problem, node: Node) -> Result<usize, Stop>
     requires { Fits problem.old node }
     ensures number { IfOk result (λ k. k ≡ length problem.old) }
@@ -112,16 +123,14 @@ pub fn add(problem: &mut Problem, node: Node) -> Result<usize, Stop>
     ensures err { OnErr result (problem.new ≡ problem.old) }
     ensures cause { IfErr result (λ e. e ≡ NoMemory) }
 {
-    match problem.add(node) {
-        Ok(number) => Ok(number),
-        Err(_) => Err(Stop::NoMemory),
-    }
+    let number = problem.add(node)?;
+    Ok(number)
 }
 
 // The number of the node that a name stands for.
 fn find(
     alloc: Global,
-    names: &IndexMap<String, usize>,
+    names: &Names,
     problem: &Problem,
     place: Place,
     name: &Text,
@@ -130,8 +139,8 @@ fn find(
     ensures found { IfOk result (λ k. Finds (name_list names.now.entries) problem.now place name.now k) }
     ensures refused { IfErr result (IsUnbuilt (known place name.now (tree_named (names_in problem.now (name_list names.now.entries)) name.now))) }
 {
-    match names.get(name.as_str()).copied() {
-        Some(number) => Ok(number),
+    match look_up(names, name) {
+        Some(binding) => Ok(binding.node),
         None => match Text::new(alloc, name.as_str()) {
             Ok(unknown) => Err(Stop::Refused(place, Refusal::UnknownName(unknown))),
             Err(_) => Err(Stop::NoMemory),

@@ -2,6 +2,7 @@
 #![tactic(auto)]
 
 mod build;
+mod names;
 mod refusal;
 mod session;
 

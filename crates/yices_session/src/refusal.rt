@@ -2,7 +2,9 @@
 
 ghost use Rattle.std.specs.Prelude.{◌≡◌};
 ghost use Rattle.yices_session.specs.Replies.{reply_text};
+ghost use Rattle.yices_session.specs.declared.refusal.Stop.TheVariants.{NoMemory};
 
+use std::alloc::AllocError;
 use y_io::Text;
 use yices_text::Place;
 
@@ -13,12 +15,18 @@ pub enum Refusal {
     UnknownName(Text),
     /// The name of a declaration is in use.
     NameInUse(Text),
+    /// An operator has a wrong number of arguments, this one.
+    BadArity(usize),
+    /// A level is to be taken away where none is open.
+    BottomLevel,
+    /// A level is to be opened where as many are open as may be.
+    TooDeep,
     /// The text is not in the grammar that is built so far.
     NotBuilt,
 }
 
 /// The reply to a command.
-#[derive(Clone, Copy, Debug, PartialEq, Eq)]
+#[derive(Debug, Drop)]
 pub enum Reply {
     /// The command has no reply.
     Nothing,
@@ -26,17 +34,23 @@ pub enum Reply {
     Sat,
     /// A check found that there is none.
     Unsat,
+    /// No model is kept.
+    NoModel,
+    /// This text: values under the model that is kept, or the bytes of a string.
+    Text(String),
 }
 
 impl Reply {
-    /// What is printed: nothing, or one line with its end.
-    pub fn text(self) -> &'static str
-        ensures { result.now ≡ reply_text self }
+    /// What is printed: nothing, lines with their ends, or the bytes of a string.
+    pub fn text(&self) -> &str
+        ensures { result.now ≡ reply_text self.now }
     {
         match self {
             Reply::Nothing => "",
             Reply::Sat => "sat\n",
             Reply::Unsat => "unsat\n",
+            Reply::NoModel => "no model\n",
+            Reply::Text(text) => text.as_str(),
         }
     }
 }
@@ -48,4 +62,12 @@ pub enum Stop {
     Refused(Place, Refusal),
     /// Memory ran out.
     NoMemory,
+}
+
+impl From<AllocError> for Stop {
+    ghost from_gives = { λ _ e. e ≡ NoMemory };
+
+    fn from(_error: AllocError) -> Stop {
+        Stop::NoMemory
+    }
 }
