@@ -1,8 +1,8 @@
 -- What was written, one piece after another.
-use Rattle.std.proofs.Common.{ℕ, suc, ◌≡◌, ◌≤◌, ◌+◌, ◌∙◌, List, [], ◌∷◌, ◌++◌, Option, Some, None, Result, Ok, Err, length, take, refl, sym, ap, arith, append_assoc, append-nil, length-append}
+use Rattle.std.proofs.Common.{ℕ, ◌≡◌, ◌∙◌, List, [], ◌∷◌, ◌++◌, Option, Some, None, Result, Ok, Err, length, take, refl, sym, ap, append_assoc, append-nil}
 use Rattle.std.specs.Prelude.{OnOk, OnErr}
 use Rattle.std.proofs.lemmas.Option.{same_Some}
-use Rattle.y_io.specs.Outside.{Rose, Grows, GrowsByPart}
+use Rattle.y_io.specs.Outside.{Grows, GrowsByPart}
 use Rattle.yices_cli.specs.Headline.{joined}
 
 -- nothing was written
@@ -24,23 +24,10 @@ take_own : (x : List ℕ) → take (length x) x ≡ x
 take_own [] = refl
 take_own (b ∷ x) = ap (λ z. b ∷ z) (take_own x)
 
-take_behind : (x y : List ℕ) (n : ℕ) → take (length x + n) (x ++ y) ≡ x ++ take n y
-take_behind [] y n = let same : 0 + n ≡ n = omega arith in ap (λ k. take k y) same
-take_behind (b ∷ x) y n = let same : suc (length x) + n ≡ suc (length x + n) = omega arith in ap (λ k. take k (b ∷ (x ++ y))) same ∙ ap (λ z. b ∷ z) (take_behind x y n)
-
--- one piece, and then a part of another
-pub part_on : (a b c : Option (List ℕ)) (x y : List ℕ) → Grows a b x → GrowsByPart b c y → GrowsByPart a c (x ++ y)
-part_on a b c x y h (n, small, k) =
-    (length x + n, omega (arith, small, length-append x y), rw (take_behind x y n) (grows_on a b c x (take n y) h k))
-
 -- all or a part
 pub some_part : {E : Type 0} (r : Result (Unit {0}) E) (a b : Option (List ℕ)) (x : List ℕ) → OnOk r (Grows a b x) → OnErr r (GrowsByPart a b x) → (n : ℕ) × Grows a b (take n x)
 some_part (Ok u) a b x ok err = (length x, rw (take_own x) ok)
 some_part (Err e) a b x ok err = (err.0, err.2)
-
--- a count that rose later rose since before
-pub rose_since : (before mid after : ℕ) → before ≤ mid → Rose mid after → Rose before after
-rose_since before mid after h rose small = omega (arith, rose small)
 
 pub joined-push : (rs : List (List ℕ)) (r : List ℕ) → joined (rs ++ r ∷ []) ≡ joined rs ++ r
 joined-push [] r = append-nil r

@@ -1,4 +1,4 @@
 pub mod Growing
-pub mod Replying
 pub mod Texts
+pub mod Replying
 pub mod Endings

@@ -1,107 +1,145 @@
--- Answering one command more, and stopping at one.
-use Rattle.std.proofs.Common.{ℕ, zero, suc, ◌≡◌, ◌<◌, ◌≤◌, ◌+◌, ◌∙◌, List, [], ◌∷◌, ◌++◌, Option, length, take, drop, map, get_or, refl, sym, ap, subst, arith, add-one}
-use Rattle.std.specs.List.{AllByRecursion}
+-- Answering one command more, and the end of it.
+use Rattle.std.proofs.Common.{ℕ, ◌≡◌, ◌≤◌, Bool, false, List, [], ◌∷◌, ◌++◌, Option, take, refl, sym, subst, inl, inr, append-nil}
 use Rattle.y_io.specs.Outside.{Rose, Grows, GrowsByPart}
-use Rattle.yices_grammar.specs.Grammar.{Command}
-use Rattle.yices_text.specs.declared.command.Command as code
-use Rattle.yices_text.specs.Plain.{plain_command}
+use Rattle.yices_grammar.specs.Grammar.{Command, exit}
+use Rattle.yices_grammar.specs.Texts.{Reads, BeginsWith}
+use Rattle.yices_text.specs.View.{HoldsNoMore}
 use Rattle.yices_session.specs.State.{State, empty_state}
-use Rattle.yices_session.specs.Steps.{Runs, Step, IsCommand}
+use Rattle.yices_session.specs.Steps.{Runs, Step}
 use Rattle.yices_cli.specs.declared.exit.Exit.{Exit}
-use Rattle.yices_cli.specs.declared.exit.Exit.TheVariants as exit
-use Rattle.yices_cli.specs.Headline.{joined}
-use Rattle.yices_cli.specs.Parts.{HasAnswered, HasAnsweredAll, HasFailed, IsCause, IsUnanswered}
-use Rattle.yices_cli.proofs.Growing.{grows_same, grows_on, part_on, rose_since, joined-push}
+use Rattle.yices_cli.specs.declared.exit.Exit.TheVariants as ends
+use Rattle.yices_cli.specs.declared.exit.LongKind.TheVariants as long
+use Rattle.yices_cli.specs.declared.reading.TextEnd.{TextEnd}
+use Rattle.yices_cli.specs.declared.reading.TextEnd.TheVariants as text_end
+use Rattle.yices_cli.specs.Headline.{SourceSeen, SinkSeen, HasAnswered, HasWaited, joined}
+use Rattle.yices_cli.specs.Parts.{is_finished, HasNoFault, IsUnread, IsUnanswered, IsTextTo, Answers, EndsSo}
+use Rattle.yices_cli.proofs.Growing.{grows_same, grows_on, joined-push}
+use Rattle.yices_cli.proofs.Texts.{got_to, rose_since}
 
-runs-push : (a b d : State) (cs : List Command) (rs : List (List ℕ)) (c : Command) (r : List ℕ) → Runs a cs rs b → Step b c.action r d → Runs a (cs ++ c ∷ []) (rs ++ r ∷ []) d
-runs-push a b d [] [] c r h step = (d, subst (λ s. Step s c.action r d) h step, refl)
-runs-push a b d [] (x ∷ rs) c r h step = absurd h
-runs-push a b d (x ∷ cs) [] c r h step = absurd h
-runs-push a b d (x ∷ cs) (y ∷ rs) c r (mid, first, rest) step = (mid, first, runs-push mid b d cs rs c r rest step)
+runs-push : (a b d : State) (cs : List Command) (rs : List (List ℕ)) (c : Command) (r : List ℕ) → Runs a cs rs b → (c.action ≡ exit → ⊥) → Step b c.action r d → Runs a (cs ++ c ∷ []) (rs ++ r ∷ []) d
+runs-push a b d [] [] c r h on step = (on, (d, subst (λ s. Step s c.action r d) h step, refl))
+runs-push a b d [] (x ∷ rs) c r h on step = absurd h
+runs-push a b d (x ∷ cs) [] c r h on step = absurd h
+runs-push a b d (x ∷ cs) (y ∷ rs) c r (goes, (mid, first, rest)) on step = (goes, (mid, first, runs-push mid b d cs rs c r rest on step))
 
-pub answered_none : (w : Option (List ℕ)) (s : State) → s ≡ empty_state → HasAnswered w w [] s
-answered_none w s is = record { replies = []; runs = is; written = grows_same w }
+pub answered_none : (w : Option (List ℕ)) (cs : List Command) (s : State) → cs ≡ [] → s ≡ empty_state → HasAnswered w w cs s
+answered_none w cs s none is = subst (λ ds. HasAnswered w w ds s) (sym none) (record { replies = []; runs = is; written = grows_same w })
 
 pub answered_more : (old mid new : Option (List ℕ)) (cs : List Command) (s t : State) (c : Command) (r : List ℕ)
-    → HasAnswered old mid cs s → Step s c.action r t → Grows mid new r → HasAnswered old new (cs ++ c ∷ []) t
-answered_more old mid new cs s t c r h step grows = record {
+    → HasAnswered old mid cs s → (c.action ≡ exit → ⊥) → Step s c.action r t → Grows mid new r → HasAnswered old new (cs ++ c ∷ []) t
+answered_more old mid new cs s t c r h on step grows = record {
   replies = h.replies ++ r ∷ [];
-  runs = runs-push empty_state s t cs h.replies c r h.runs step;
+  runs = runs-push empty_state s t cs h.replies c r h.runs on step;
   written = rw (joined-push h.replies r) (grows_on old mid new (joined h.replies) r h.written grows);
 }
 
--- the commands up to one, that one, and the rest
-pub split_there : (xs : List code.Command) (i : ℕ) (x : code.Command) → i < length xs → x ≡ get_or xs i x
-    → map plain_command xs ≡ map plain_command (take i xs) ++ plain_command x ∷ map plain_command (drop (suc i) xs)
-split_there [] i x h is = absurd (omega (arith, h))
-split_there (y ∷ xs) zero x h is = ap (λ z. plain_command z ∷ map plain_command xs) (sym is)
-split_there (y ∷ xs) (suc i) x h is = ap (λ cs. plain_command y ∷ cs) (split_there xs i x (omega (arith, h)) is)
+-- the program ends before a command was read
+unread_stops : (end : TextEnd) (finished : Bool) (text : List ℕ) (cs : List Command) (s : State) (out : SinkSeen) (e : Exit) → finished ≡ is_finished end
+    → HasAnswered out.old out.new cs s → BeginsWith text cs → IsUnread finished text cs e → (input : SourceSeen) → IsTextTo input text end → Answers 0 input out e
+unread_stops end finished text cs s out ends.Done same so begins why input to = absurd why
+unread_stops end finished text cs s out ends.NoMemory same so begins why input to = inl (inr (
+  refl,
+  record {
+    finished = finished;
+    text = text;
+    got = got_to input text end finished same to;
+    front = cs;
+    rest = [];
+    begins = subst (BeginsWith text) (sym (append-nil cs)) begins;
+    last = s;
+    answered = so;
+  },
+))
+unread_stops end finished text cs s out (ends.Syntax e) same so begins why input to =
+    inl (refl, record { finished = finished; text = text; got = got_to input text end finished same to; front = cs; begins = begins; fault = why; last = s; answered = so })
+unread_stops end finished text cs s out ends.ReadFault same so begins why input to = absurd why
+unread_stops end finished text cs s out (ends.Usage k) same so begins why input to = absurd why
+unread_stops end finished text cs s out (ends.Refused at cause) same so begins why input to =
+    inl (refl, inr (why.0, record { finished = finished; text = text; got = got_to input text end finished same to; front = cs; begins = begins; fault = why.1; last = s; answered = so }))
+unread_stops end finished text cs s out ends.WriteFault same so begins why input to = absurd why
+unread_stops end finished text cs s out (ends.TooLong long.Bytes) same so begins why input to = absurd why
+unread_stops end finished text cs s out (ends.TooLong (long.Nesting at)) same so begins why input to =
+    inl (refl, record { finished = finished; text = text; got = got_to input text end finished same to; front = cs; begins = begins; fault = why; last = s; answered = so })
 
-pub take_there : (xs : List code.Command) (i : ℕ) (x : code.Command) → i < length xs → x ≡ get_or xs i x
-    → map plain_command (take (suc i) xs) ≡ map plain_command (take i xs) ++ plain_command x ∷ []
-take_there [] i x h is = absurd (omega (arith, h))
-take_there (y ∷ xs) zero x h is = ap (λ z. plain_command z ∷ []) (sym is)
-take_there (y ∷ xs) (suc i) x h is = ap (λ cs. plain_command y ∷ cs) (take_there xs i x (omega (arith, h)) is)
+pub unread_ends : (end : TextEnd) (finished : Bool) (text : List ℕ) (cs : List Command) (s : State) (out : SinkSeen) (e : Exit) → finished ≡ is_finished end
+    → HasAnswered out.old out.new cs s → BeginsWith text cs → IsUnread finished text cs e → EndsSo end text out e
+unread_ends end finished text cs s out e same so begins why = record { so = unread_stops end finished text cs s out e same so begins why }
 
-pub take_whole : (xs : List code.Command) (i : ℕ) → length xs ≤ i → take i xs ≡ xs
-take_whole [] zero h = refl
-take_whole [] (suc i) h = refl
-take_whole (x ∷ xs) zero h = absurd (omega (arith, h))
-take_whole (x ∷ xs) (suc i) h = ap (λ ys. x ∷ ys) (take_whole xs i (omega (arith, h)))
-
-pub command_there : (xs : List code.Command) (i : ℕ) (x : code.Command) → i < length xs → x ≡ get_or xs i x → AllByRecursion IsCommand (map plain_command xs) → IsCommand (plain_command x)
-command_there [] i x h is all = absurd (omega (arith, h))
-command_there (y ∷ xs) zero x h is all = subst (λ z. IsCommand (plain_command z)) (sym is) all.0
-command_there (y ∷ xs) (suc i) x h is all = command_there xs i x (omega (arith, h)) is all.1
-
-pub step_on : (old mid new : Option (List ℕ)) (xs : List code.Command) (i : ℕ) (x : code.Command) (s t : State) (r : List ℕ)
-    → i < length xs → x ≡ get_or xs i x → HasAnswered old mid (map plain_command (take i xs)) s → Step s (plain_command x).action r t → Grows mid new r
-    → HasAnswered old new (map plain_command (take (i + 1) xs)) t
-step_on old mid new xs i x s t r h is so step grows =
-    subst (λ cs. HasAnswered old new cs t) (sym (ap (λ k. map plain_command (take k xs)) (add-one i) ∙ take_there xs i x h is)) (answered_more old mid new (map plain_command (take i xs)) s t (plain_command x) r so step grows)
-
-pub stop_at : (old new : Option (List ℕ)) (before after : ℕ) (xs : List code.Command) (i : ℕ) (x : code.Command) (s : State) (e : Exit)
-    → i < length xs → x ≡ get_or xs i x → HasAnswered old new (map plain_command (take i xs)) s → IsCause s (plain_command x) e
-    → IsUnanswered old new before after (map plain_command xs) e
-stop_at old new before after xs i x s exit.Done h is so cause = absurd cause
-stop_at old new before after xs i x s exit.NoMemory h is so cause = record {
-  front = map plain_command (take i xs);
-  rest = plain_command x ∷ map plain_command (drop (suc i) xs);
-  state = s;
-  split = split_there xs i x h is;
-  answered = so;
-}
-stop_at old new before after xs i x s exit.ReadFault h is so cause = absurd cause
-stop_at old new before after xs i x s (exit.Usage k) h is so cause = absurd cause
-stop_at old new before after xs i x s (exit.Refused at why) h is so cause = record {
-  front = map plain_command (take i xs);
-  command = plain_command x;
-  rest = map plain_command (drop (suc i) xs);
-  state = s;
-  split = split_there xs i x h is;
-  answered = so;
-  refused = cause;
-}
-stop_at old new before after xs i x s exit.WriteFault h is so cause = absurd cause
-
-pub fail_at : (old mid new : Option (List ℕ)) (before between after : ℕ) (xs : List code.Command) (i : ℕ) (x : code.Command) (s t : State) (r : List ℕ)
-    → i < length xs → x ≡ get_or xs i x → HasAnswered old mid (map plain_command (take i xs)) s → Step s (plain_command x).action r t
-    → before ≤ between → Rose between after → GrowsByPart mid new r → HasFailed old new before after (map plain_command xs)
-fail_at old mid new before between after xs i x s t r h is so step later rose part = record {
-  front = map plain_command (take i xs);
-  command = plain_command x;
-  rest = map plain_command (drop (suc i) xs);
-  replies = so.replies;
-  reply = r;
-  state = s;
-  next = t;
-  split = split_there xs i x h is;
-  runs = so.runs;
-  step = step;
-  rose = rose_since before between after later rose;
-  written = rw (joined-push so.replies r) (part_on old mid new (joined so.replies) r so.written part);
+-- the program ends at an `exit`
+pub left_ends : (end : TextEnd) (finished : Bool) (text : List ℕ) (cs : List Command) (c : Command) (s : State) (out : SinkSeen) → finished ≡ is_finished end
+    → HasAnswered out.old out.new cs s → BeginsWith text (cs ++ c ∷ []) → c.action ≡ exit → EndsSo end text out ends.Done
+left_ends end finished text cs c s out same so begins exits = record {
+  so = λ input to.
+      inl (refl, inr (record { finished = finished; text = text; got = got_to input text end finished same to; front = cs; command = c; begins = begins; exits = exits; last = s; answered = so }));
 }
 
-pub answered_all : (old new : Option (List ℕ)) (xs : List code.Command) (i : ℕ) (s : State) → length xs ≤ i → HasAnswered old new (map plain_command (take i xs)) s
-    → HasAnsweredAll old new (map plain_command xs)
-answered_all old new xs i s h so = record { state = s; answered = subst (λ ys. HasAnswered old new (map plain_command ys) s) (take_whole xs i h) so }
+-- the program ends at a command that has no reply
+unanswered_stops : (end : TextEnd) (finished : Bool) (text : List ℕ) (cs : List Command) (c : Command) (s : State) (out : SinkSeen) (e : Exit) → finished ≡ is_finished end
+    → HasAnswered out.old out.new cs s → BeginsWith text (cs ++ c ∷ []) → IsUnanswered s c e → (input : SourceSeen) → IsTextTo input text end → Answers 0 input out e
+unanswered_stops end finished text cs c s out ends.Done same so begins why input to = absurd why
+unanswered_stops end finished text cs c s out ends.NoMemory same so begins why input to =
+    inl (inr (refl, record { finished = finished; text = text; got = got_to input text end finished same to; front = cs; rest = c ∷ []; begins = begins; last = s; answered = so }))
+unanswered_stops end finished text cs c s out (ends.Syntax e) same so begins why input to = absurd why
+unanswered_stops end finished text cs c s out ends.ReadFault same so begins why input to = absurd why
+unanswered_stops end finished text cs c s out (ends.Usage k) same so begins why input to = absurd why
+unanswered_stops end finished text cs c s out (ends.Refused at cause) same so begins why input to = inl (
+  refl,
+  inl (record { finished = finished; text = text; got = got_to input text end finished same to; front = cs; command = c; begins = begins; last = s; answered = so; refused = why }),
+)
+unanswered_stops end finished text cs c s out ends.WriteFault same so begins why input to = absurd why
+unanswered_stops end finished text cs c s out (ends.TooLong kind) same so begins why input to = absurd why
+
+pub unanswered_ends : (end : TextEnd) (finished : Bool) (text : List ℕ) (cs : List Command) (c : Command) (s : State) (out : SinkSeen) (e : Exit) → finished ≡ is_finished end
+    → HasAnswered out.old out.new cs s → BeginsWith text (cs ++ c ∷ []) → IsUnanswered s c e → EndsSo end text out e
+unanswered_ends end finished text cs c s out e same so begins why = record { so = unanswered_stops end finished text cs c s out e same so begins why }
+
+-- the program ends at a reply that couldn't be written whole
+pub cut_ends : (end : TextEnd) (finished : Bool) (text : List ℕ) (cs : List Command) (c : Command) (s t : State) (r : List ℕ) (out : SinkSeen) (mid : Option (List ℕ)) (between : ℕ)
+    → finished ≡ is_finished end → HasAnswered out.old mid cs s → BeginsWith text (cs ++ c ∷ []) → Step s c.action r t
+    → out.before ≤ between → Rose between out.after → GrowsByPart mid out.new r → EndsSo end text out ends.WriteFault
+cut_ends end finished text cs c s t r out mid between same so begins step later rose (n, small, grows) = record {
+  so = λ input to. inr (
+    refl,
+    refl,
+    record {
+      finished = finished;
+      text = text;
+      got = got_to input text end finished same to;
+      front = cs;
+      command = c;
+      begins = begins;
+      replies = so.replies;
+      last = s;
+      runs = so.runs;
+      reply = r;
+      next = t;
+      step = step;
+      rose = rose_since out.before between out.after later rose;
+      count = n;
+      part = small;
+      written = grows_on out.old mid out.new (joined so.replies) (take n r) so.written grows;
+    },
+  );
+}
+
+-- all whole commands of a text that goes on were answered
+waited : (text : List ℕ) (cs : List Command) (s : State) (out : SinkSeen) → HasAnswered out.old out.new cs s → BeginsWith text cs → HoldsNoMore text cs → HasNoFault false text cs → HasWaited text out
+waited text cs s out so begins no_more no_fault = record { front = cs; begins = begins; no_more = no_more; no_fault = no_fault; last = s; answered = so }
+
+-- the program ends at the end of the input
+pub read_ends : (text : List ℕ) (cs : List Command) (s : State) (out : SinkSeen) → HasAnswered out.old out.new cs s → Reads text cs → EndsSo text_end.InputEnd text out ends.Done
+read_ends text cs s out so reads = record { so = λ input to. inl (refl, inl (record { text = text; got = to; commands = cs; reads = reads; last = s; answered = so })) }
+
+-- the program ends at a failed read
+pub broken_ends : (text : List ℕ) (cs : List Command) (s : State) (out : SinkSeen) → HasAnswered out.old out.new cs s → BeginsWith text cs → HoldsNoMore text cs → HasNoFault false text cs → EndsSo text_end.ReadFault text out ends.ReadFault
+broken_ends text cs s out so begins no_more no_fault =
+    record { so = λ input to. inl (refl, record { text = text; got = to.0; waited = waited text cs s out so begins no_more no_fault; rose = to.1; breaks = to.2 }) }
+
+-- the program ends at the limit
+pub limit_ends : (text : List ℕ) (cs : List Command) (s : State) (out : SinkSeen) → HasAnswered out.old out.new cs s → BeginsWith text cs → HoldsNoMore text cs → HasNoFault false text cs → EndsSo text_end.Limit text out (ends.TooLong long.Bytes)
+limit_ends text cs s out so begins no_more no_fault =
+    record { so = λ input to. inl (refl, record { text = text; more = to.0; full = to.1; waited = waited text cs s out so begins no_more no_fault }) }
+
+-- the same of an equal text
+pub ends_at : (end : TextEnd) (text fed : List ℕ) (out : SinkSeen) (e : Exit) → text ≡ fed → EndsSo end text out e → EndsSo end fed out e
+ends_at end text fed out e same ends = subst (λ t. EndsSo end t out e) same ends

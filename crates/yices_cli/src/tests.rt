@@ -1,149 +1,182 @@
 //! Whole runs over memory: what is written and the status, for texts with known answers.
-ghost use Rattle.std.specs.Prelude.{◌≡◌};
+ghost use Rattle.std.specs.Prelude.{◌≡◌, ◌<◌};
+
+mod faults;
+mod scripts;
 
 use crate::run::run;
+use crate::tests::faults::FAULTS;
+use crate::tests::scripts::SCRIPTS;
 use std::alloc::Global;
 use std::process::Abort;
 use std::test::Fail;
 use y_io::{Failed, FailingSink, FailingSource, FileName, MemorySink, MemorySource, Source};
 
-/// Gives one byte at a time.
+/// A text with its status, its replies and its line on errors.
+pub type Row = (&'static str, u8, &'static str, &'static str);
+
+/// Gives at most so many bytes at a time.
 #[derive(Drop)]
-struct ByteByByte {
-    inner: MemorySource,
+struct Short {
+    inner: FailingSource,
+    most: usize,
+    ghost some: { 0 < most },
 }
 
-impl Source for ByteByByte {
-    ghost holds = { λ s. ⟦<MemorySource as Source>⟧.holds s.inner };
+impl Source for Short {
+    ghost holds = { λ s. ⟦<FailingSource as Source>⟧.holds s.inner };
 
-    ghost breaks = { λ s. ⟦<MemorySource as Source>⟧.breaks s.inner };
+    ghost breaks = { λ s. ⟦<FailingSource as Source>⟧.breaks s.inner };
 
-    ghost faults = { λ s. ⟦<MemorySource as Source>⟧.faults s.inner };
+    ghost faults = { λ s. ⟦<FailingSource as Source>⟧.faults s.inner };
 
     fn read(&mut self, name: &FileName, place: u64, into: &mut [u8]) -> Result<usize, Failed> {
-        let mut byte = [0u8; 1];
-        let count = self.inner.read(name, place, &mut byte)?;
-        into[0] = byte[0];
-        Ok(count)
+        let most = into.len().min(self.most);
+        self.inner.read(name, place, &mut into[..most])
     }
 }
 
-fn memory(alloc: Global, text: &str) -> Result<MemorySource, Fail> {
-    let mut source = MemorySource::new(alloc);
-    source.add(FileName::Input, text.as_bytes())?;
-    Ok(source)
-}
-
-fn expect_run<R: Abort + AllocGlobal, S: Source>(
+// Runs a text that breaks at a place, in pieces of each size.
+fn expect_run<R: Abort + AllocGlobal>(
     rt: &R,
-    words: &Vec<String>,
-    source: &mut S,
+    text: &str,
+    stop: u64,
     status: u8,
     replies: &str,
-    lines: &str,
+    line: &str,
 ) -> Result<(), Fail> {
-    let mut out = MemorySink::new(rt.alloc(), 200)?;
-    let mut errors = MemorySink::new(rt.alloc(), 200)?;
-    let exit = run(rt.alloc(), words, source, &mut out, &mut errors);
-    assert_eq!(rt; exit.status(), status, "status");
-    assert_eq!(rt; out.bytes(), replies.as_bytes(), "replies");
-    assert_eq!(rt; errors.bytes(), lines.as_bytes(), "lines");
+    let words = Vec::new(rt.alloc());
+    for most in [5000, 1, 2, 7] {
+        let mut memory = MemorySource::new(rt.alloc());
+        memory.add(FileName::Input, text.as_bytes())?;
+        let mut source = Short {
+            inner: FailingSource::new(memory, FileName::Input, stop),
+            most,
+        };
+        let mut out = MemorySink::new(rt.alloc(), 200)?;
+        let mut errors = MemorySink::new(rt.alloc(), 200)?;
+        let exit = run(rt.alloc(), &words, &mut source, &mut out, &mut errors);
+        assert_eq!(rt;
+            errors.bytes(),
+            line.as_bytes(),
+            "{text} in pieces of {most}"
+        );
+        assert_eq!(rt;
+            out.bytes(),
+            replies.as_bytes(),
+            "{text} in pieces of {most}"
+        );
+        assert_eq!(rt; exit.status(), status, "{text} in pieces of {most}");
+    }
     Ok(())
 }
 
-/// A text with its status, its replies and its line on errors.
-struct Row {
-    text: &'static str,
-    status: u8,
-    replies: &'static str,
-    line: &'static str,
+// Runs the texts of a table.
+fn expect_rows<R: Abort + AllocGlobal>(rt: &R, rows: &[Row]) -> Result<(), Fail> {
+    for (text, status, replies, line) in rows {
+        expect_run(rt, text, 1000000, *status, replies, line)?;
+    }
+    Ok(())
 }
 
-const ROWS: [Row; 12] = [
-    Row {
-        text: "(define p::bool)(assert p)(check)",
-        status: 0,
-        replies: "sat\n",
-        line: "",
-    },
-    Row {
-        text: "(define p::bool)(assert (and p (not p)))(check)",
-        status: 0,
-        replies: "unsat\n",
-        line: "",
-    },
-    Row {
-        text: "",
-        status: 0,
-        replies: "",
-        line: "",
-    },
-    Row {
-        text: "(check)",
-        status: 0,
-        replies: "sat\n",
-        line: "",
-    },
-    Row {
-        text: "(define p::bool)(define p::bool)",
-        status: 20,
-        replies: "",
-        line: "yices: <stdin>:1:17: refused 3 NameInUse p\n",
-    },
-    Row {
-        text: "(assert q)",
-        status: 20,
-        replies: "",
-        line: "yices: <stdin>:1:9: refused 1 UnknownName q\n",
-    },
-    Row {
-        text: " \t; a comment\n\r\n;the last",
-        status: 0,
-        replies: "",
-        line: "",
-    },
-    Row {
-        text: "(check)\n(assert (or false q))",
-        status: 20,
-        replies: "sat\n",
-        line: "yices: <stdin>:2:19: refused 1 UnknownName q\n",
-    },
-    Row {
-        text: "(check)(push)",
-        status: 20,
-        replies: "",
-        line: "yices: <stdin>:1:1: refused 21 NotBuilt\n",
-    },
-    Row {
-        text: "(check",
-        status: 20,
-        replies: "",
-        line: "yices: <stdin>:1:1: refused 21 NotBuilt\n",
-    },
-    Row {
-        text: "(define p::bool)(assert (not p p))",
-        status: 20,
-        replies: "",
-        line: "yices: <stdin>:1:1: refused 21 NotBuilt\n",
-    },
-    Row {
-        text: "(define a::bool)(define b::bool)(assert (or a b))(check)(assert (not a))(check)(assert (not b))(check)",
-        status: 0,
-        replies: "sat\nsat\nunsat\n",
-        line: "",
-    },
+#[test]
+fn faults_have_their_places(rt: HostRuntime) -> Result<(), Fail> {
+    expect_rows(&rt, &FAULTS)
+}
+
+#[test]
+fn scripts_have_their_replies(rt: HostRuntime) -> Result<(), Fail> {
+    expect_rows(&rt, &SCRIPTS)
+}
+
+/// A text, the place where it breaks, and then as in `Row`.
+const BROKEN: [(&str, u64, u8, &str, &str); 10] = [
+    ("", 0, 18, "", "yices: <stdin>: read fault\n"),
+    ("(check)", 0, 18, "", "yices: <stdin>: read fault\n"),
+    ("(check)", 5, 18, "", "yices: <stdin>: read fault\n"),
+    ("(check)", 7, 18, "sat\n", "yices: <stdin>: read fault\n"),
+    (
+        "(check)(check)",
+        10,
+        18,
+        "sat\n",
+        "yices: <stdin>: read fault\n",
+    ),
+    (
+        "(echo \"a\\n\")(echo \"b\\n\")(check)",
+        24,
+        18,
+        "a\nb\n",
+        "yices: <stdin>: read fault\n",
+    ),
+    (
+        "(define p::bool)",
+        10,
+        18,
+        "",
+        "yices: <stdin>: read fault\n",
+    ),
+    ("(check)(exit)(check)", 13, 0, "sat\n", ""),
+    (
+        "(check))(check)",
+        8,
+        17,
+        "sat\n",
+        "yices: <stdin>:1:8: syntax Unexpected\n",
+    ),
+    (
+        "(check)(assert q)(check)",
+        17,
+        20,
+        "sat\n",
+        "yices: <stdin>:1:16: refused 1 UnknownName q\n",
+    ),
 ];
 
 #[test]
-fn texts_have_their_replies(rt: HostRuntime) -> Result<(), Fail> {
-    let words = Vec::new(rt.alloc());
-    for row in &ROWS {
-        let mut whole = memory(rt.alloc(), row.text)?;
-        expect_run(&rt, &words, &mut whole, row.status, row.replies, row.line)?;
-        let mut bytes = ByteByByte {
-            inner: memory(rt.alloc(), row.text)?,
-        };
-        expect_run(&rt, &words, &mut bytes, row.status, row.replies, row.line)?;
+fn a_read_fails(rt: HostRuntime) -> Result<(), Fail> {
+    for (text, stop, status, replies, line) in &BROKEN {
+        expect_run(&rt, text, *stop, *status, replies, line)?;
+    }
+    Ok(())
+}
+
+// So many times that part, behind the front.
+fn repeated(alloc: Global, front: &str, part: &str, count: usize) -> Result<String, Fail> {
+    let mut text = String::from_str(alloc, front)?;
+    for _ in 0..count {
+        text.push_str(part)?;
+    }
+    Ok(text)
+}
+
+#[test]
+fn limits_are_kept(rt: HostRuntime) -> Result<(), Fail> {
+    for (front, part, count, status, line) in [
+        (
+            "(assert ",
+            "(not ",
+            4096,
+            23,
+            "yices: <stdin>:1:20484: too long: nesting\n",
+        ),
+        (
+            "(assert ",
+            "(not ",
+            4095,
+            17,
+            "yices: <stdin>:1:20484: syntax EndOfInput\n",
+        ),
+        (
+            "        ",
+            "(push)",
+            65537,
+            20,
+            "yices: <stdin>:1:393225: refused 16 TooDeep\n",
+        ),
+    ] {
+        let text = repeated(rt.alloc(), front, part, count)?;
+        expect_run(&rt, text.as_str(), 1000000, status, "", line)?;
     }
     Ok(())
 }
@@ -151,45 +184,46 @@ fn texts_have_their_replies(rt: HostRuntime) -> Result<(), Fail> {
 #[test]
 fn a_word_is_at_fault(rt: HostRuntime) -> Result<(), Fail> {
     let words = vec![in rt.alloc(); String::from_str(rt.alloc(), "--calls")?]?;
-    let mut source = memory(rt.alloc(), "")?;
-    expect_run(
-        &rt,
-        &words,
-        &mut source,
-        19,
-        "",
-        "yices: usage error at word 1\n",
-    )
+    let mut source = MemorySource::new(rt.alloc());
+    source.add(FileName::Input, b"(check)")?;
+    let mut out = MemorySink::new(rt.alloc(), 200)?;
+    let mut errors = MemorySink::new(rt.alloc(), 200)?;
+    let exit = run(rt.alloc(), &words, &mut source, &mut out, &mut errors);
+    assert_eq!(rt;
+        errors.bytes(),
+        b"yices: usage error at word 1\n".as_slice()
+    );
+    assert_eq!(rt; out.bytes(), b"".as_slice());
+    assert_eq!(rt; exit.status(), 19);
+    Ok(())
 }
 
-#[test]
-fn a_read_fails(rt: HostRuntime) -> Result<(), Fail> {
-    let words = Vec::new(rt.alloc());
-    let mut source = FailingSource::new(memory(rt.alloc(), "(check)(check)")?, FileName::Input, 10);
-    expect_run(
-        &rt,
-        &words,
-        &mut source,
-        18,
-        "",
-        "yices: <stdin>: read fault\n",
-    )
-}
+/// A text, how much the output and errors take, and what they hold in the end.
+const CUT: [(&str, usize, usize, &str, &str); 4] = [
+    (
+        "(define p::bool)(assert p)(check)(show-model)",
+        2,
+        200,
+        "sa",
+        "yices: write fault\n",
+    ),
+    ("(check)(check)", 6, 200, "sat\nsa", "yices: write fault\n"),
+    ("(check)(assert q)", 200, 9, "sat\n", "yices: <s"),
+    ("(check)(check", 200, 0, "sat\n", ""),
+];
 
 #[test]
 fn a_write_fails(rt: HostRuntime) -> Result<(), Fail> {
     let words = Vec::new(rt.alloc());
-    for (text, stop, lines, replies, line) in [
-        ("(check)(check)", 6, 200, "sat\nsa", "yices: write fault\n"),
-        ("(check)(assert q)", 200, 9, "sat\n", "yices: <s"),
-    ] {
-        let mut source = memory(rt.alloc(), text)?;
-        let mut out = FailingSink::new(MemorySink::new(rt.alloc(), 300)?, stop);
-        let mut errors = FailingSink::new(MemorySink::new(rt.alloc(), 300)?, lines);
+    for (text, room, lines, replies, line) in &CUT {
+        let mut source = MemorySource::new(rt.alloc());
+        source.add(FileName::Input, text.as_bytes())?;
+        let mut out = FailingSink::new(MemorySink::new(rt.alloc(), 300)?, *room);
+        let mut errors = FailingSink::new(MemorySink::new(rt.alloc(), 300)?, *lines);
         let exit = run(rt.alloc(), &words, &mut source, &mut out, &mut errors);
-        assert_eq!(rt; exit.status(), 22, "{text}");
         assert_eq!(rt; out.bytes(), replies.as_bytes(), "{text}");
         assert_eq!(rt; errors.bytes(), line.as_bytes(), "{text}");
+        assert_eq!(rt; exit.status(), 22, "{text}");
     }
     Ok(())
 }

@@ -6,3 +6,6 @@ returns-in-UnknownName c = rw (c.in-UnknownName.is, ← c.as_str-name.ensures.by
 
 pub returns-in-NameInUse : goal.returns-in-NameInUse
 returns-in-NameInUse c = rw (c.in-NameInUse.is, ← c.as_str-name-in-NameInUse.ensures.bytes) (search rules)
+
+pub returns-in-BadArity : goal.returns-in-BadArity
+returns-in-BadArity c = rw c.in-BadArity.is (search rules)

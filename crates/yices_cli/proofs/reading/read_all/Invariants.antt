@@ -1,14 +1,14 @@
 use Rattle.std.proofs.Common.{◌-◌, ◌≡◌, ◌≤◌, ℕ, length, false}
 use Rattle.y_io.specs.declared.file_name.FileName.TheVariants.{Input}
-use Rattle.yices_cli.specs.Headline.{BeginsSo}
+use Rattle.yices_cli.specs.Headline.{IsFront}
 use Rattle.yices_cli.proofs.reading.read_all.Given as goal
 
 -- what was read is what the input begins with, and the input is as it was
-abbrev pub invariant-loop-place : goal.invariant-loop-place
-invariant-loop-place g l = record {
+abbrev pub invariant-pieces : goal.invariant-pieces
+invariant-pieces g l = record {
   place : l.place ≡ length l.reader.fed;
-  bound : l.place ≤ 67112960;
-  front : BeginsSo (g.S.Source.holds l.fn.source Input) l.reader.fed;
+  room : l.place ≤ 67108864;
+  front : IsFront (g.S.Source.holds l.fn.source Input) false l.reader.fed;
   held : g.S.Source.holds l.source Input ≡ g.S.Source.holds l.fn.source Input;
   unbroken : (p : ℕ) → g.S.Source.breaks l.source Input p ≡ g.S.Source.breaks l.fn.source Input p;
   later : g.S.Source.faults l.fn.source ≤ g.S.Source.faults l.source;
@@ -16,5 +16,5 @@ invariant-loop-place g l = record {
   answered : l.reader.answered ≡ l.fn.reader.answered;
 }
 
-abbrev pub decreases-loop-place : goal.decreases-loop-place
-decreases-loop-place g l = 67108865 - l.place
+abbrev pub decreases-pieces : goal.decreases-pieces
+decreases-pieces g l = 67108864 - l.place
