@@ -77,6 +77,12 @@ Same c d = (l : Lit) → In l c ↔ In l d
 abbrev pub Known : (List Lit → Type 0) → List Lit → List (List Lit) → List Lit → Type 0
 Known added assumed earlier = Both (Both added (Units assumed)) (Listed earlier)
 
+-- clauses that follow, none with a literal and its opposite, no two with the same literals
+pub record IsDerived (added stands : List Lit → Type 0) (cs : List (List Lit)) : Type 0 where
+  pub plain : (i : ℕ) (c : List Lit) (l : Lit) → slice_get cs i ≡ Some c → In l c → In (opposite l) c → ⊥
+  pub different : (i j : ℕ) (c d : List Lit) → i < j → slice_get cs i ≡ Some c → slice_get cs j ≡ Some d → Same c d → ⊥
+  pub follows : (i : ℕ) (c : List Lit) → slice_get cs i ≡ Some c → Follows (Both added stands) c
+
 -- a record of learned clauses, the oldest first
 pub record IsRecord (added stands : List Lit → Type 0) (assumed : List Lit) (cs : List (List Lit)) : Type 0 where
   pub nonempty : (i : ℕ) → slice_get cs i ≡ Some [] → ⊥

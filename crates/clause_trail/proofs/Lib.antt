@@ -12,5 +12,6 @@ pub mod Resolving
 pub mod Rows
 pub mod Seeking
 pub mod Settling
+pub mod Shorter
 pub mod Trails
 pub mod Turning

@@ -3,14 +3,15 @@
 ghost use Rattle.std.specs.Prelude.{◌≡◌, ◌<◌, ◌≤◌, ◌+◌, ◌++◌, ◌∷◌, [], List, ℕ, Some, None, length, slice_get, OnOk, IfOk, IfSome, IfNone};
 ghost use Rattle.std.specs.Bool.{OnTrue, OnFalse};
 ghost use Rattle.clause_logic.specs.declared.Lit.{Lit};
-ghost use Rattle.clause_logic.specs.Clauses.{In, opposite};
-ghost use Rattle.clause_logic.specs.Trails.{FalseBefore, Prefix};
+ghost use Rattle.clause_logic.specs.Clauses.{In, opposite, Both, Listed};
+ghost use Rattle.clause_logic.specs.Trails.{FalseBefore, Prefix, Learned};
 ghost use Rattle.clause_trail.specs.Words.{False};
 ghost use Rattle.clause_trail.specs.View.{lists_of, Sound};
 ghost use Rattle.clause_trail.specs.Changes.{Chosen, Asserting, LastStart, NoneAfter, Settles, Shrunk, Pends, Refuting};
 
 use crate::analysis::{analyze, core_of};
 use crate::levels::top_of;
+use crate::shortening::shorten;
 use crate::{Pair, Standing, State};
 use clause_logic::Lit;
 use clause_logic::lists::{Clause, Lits};
@@ -73,15 +74,38 @@ impl State {
         match self.turn_start(assumed) {
             Some(start) => {
                 let mut seen = Vec::new(alloc);
-                let clause = analyze(alloc, self, start, lits, &mut seen)?;
+                let clause = self.derive(alloc, start, lits, &mut seen)?;
                 self.choice.bump_all(&seen);
-                Ok(Settled::Derived(Clause::from_vec(clause)))
+                self.relevance
+                    .conflict(&seen, &self.places, &self.reasons, start);
+                Ok(Settled::Derived(clause))
             }
             None => {
                 let core = core_of(alloc, self, assumed, lits)?;
                 Ok(Settled::Core(Lits::from_vec(core)))
             }
         }
+    }
+
+    /// Derives a clause from a conflict of the last level, and makes it short.
+    fn derive(
+        &self,
+        alloc: Global,
+        start: usize,
+        lits: &[Lit],
+        seen: &mut Vec<usize>,
+    ) -> Result<Clause, AllocError>
+        requires sound { Sound (lists_of self.now) }
+        requires last { LastStart (lists_of self.now) start }
+        requires false_there { (m : Lit) → In m lits.now → FalseBefore self.now.order.items (length self.now.order.items) m }
+        requires high { (m : Lit) × In m lits.now × (p : ℕ) × (start ≤ p) × (slice_get self.now.order.items p ≡ Some (opposite m)) }
+        ensures { IfOk result (λ c. Learned (Both (Listed self.now.clauses.items) (λ d. d ≡ lits.now)) self.now.order.items start c) }
+    {
+        let full = analyze(alloc, self, start, lits, seen)?;
+        let last = full.len() - 1;
+        let mut clause = shorten(alloc, self, &full.as_slice()[..last])?;
+        clause.push(full.as_slice()[last])?;
+        Ok(Clause::from_vec(clause))
     }
 
     /// Where the last level begins, if all assumptions stand before it.

@@ -17,10 +17,13 @@ pub mod analysis;
 pub mod choice;
 pub mod conflicts;
 pub mod levels;
+pub mod relevance;
+pub mod shortening;
 
 use choice::Choice;
 use clause_logic::lists::Clause;
 use clause_logic::{Lit, same};
+use relevance::Relevance;
 use std::alloc::{AllocError, Global};
 use std::marker::Model;
 
@@ -157,6 +160,7 @@ pub struct State {
     pub pairs: Vec<Pair>,
     pub watches: Vec<Row>,
     pub choice: Choice,
+    pub relevance: Relevance,
 }
 
 impl State {
@@ -442,6 +446,7 @@ impl State {
             pairs: Vec::new(alloc),
             watches: Vec::new(alloc),
             choice: Choice::new(alloc),
+            relevance: Relevance::new(alloc),
         }
     }
 

@@ -2,14 +2,11 @@ use Rattle.std.proofs.Common.{◌≡◌, ◌≤◌, length, subst, sym}
 use Rattle.clause_logic.specs.Clauses.{Both, Listed}
 use Rattle.clause_logic.specs.Trails.{Learned}
 use Rattle.clause_trail.specs.View.{lists_of}
-use Rattle.clause_trail.proofs.Settling.{left_long, left_false, ready_at, rooted_of, chosen_shrunk, settled_high}
+use Rattle.clause_trail.proofs.Settling.{left_long, left_false, rooted_of, chosen_shrunk, settled_high}
 use Rattle.clause_trail.proofs.State.settle.Goals as goal
 
-pub analyze-requires-clause-ready : goal.analyze-requires-clause-ready
-analyze-requires-clause-ready c = ready_at (lists_of c.backtrack.new.self) c.in-Some.start c.backtrack.ensures.backed.sound c.in-Some.ensures.some.0
-
-pub analyze-requires-clause-high : goal.analyze-requires-clause-high
-analyze-requires-clause-high c =
+pub derive-requires-clause-high : goal.derive-requires-clause-high
+derive-requires-clause-high c =
     let so = c.top_of-top.ensures (length c.args.self.now.order.items) c.requires.false_there in
     let long : c.top_of-top.result ≤ length c.backtrack.new.self.order.items =
     left_long (lists_of c.args.self.now) (lists_of c.backtrack.new.self) c.levels_before-level.result c.top_of-top.result c.backtrack.ensures.backed c.backtrack.ensures.level c.levels_before-level.ensures.bound c.levels_before-level.ensures.above so.bound in
@@ -23,12 +20,12 @@ pub returns-in_ok-clause-in-Some-clause-settles : goal.returns-in_ok-clause-in-S
 returns-in_ok-clause-in-Some-clause-settles c = record {
   start = c.in-Some.start;
   last = c.in-Some.ensures.some.0;
-  learned = subst (Learned (Both (Listed c.backtrack.new.self.clauses.items) (λ d. d ≡ c.args.lits.now)) c.backtrack.new.self.order.items c.in-Some.start) (sym c.from_vec.ensures) c.in_ok-clause-in-Some.ensures;
+  learned = c.in_ok-clause-in-Some.ensures;
   assumed_there = c.in-Some.ensures.some.1;
 }
 
-pub analyze-requires-clause-false_there : goal.analyze-requires-clause-false_there
-analyze-requires-clause-false_there c =
+pub derive-requires-clause-false_there : goal.derive-requires-clause-false_there
+derive-requires-clause-false_there c =
     let so = c.top_of-top.ensures (length c.args.self.now.order.items) c.requires.false_there in
     let long : c.top_of-top.result ≤ length c.backtrack.new.self.order.items =
     left_long (lists_of c.args.self.now) (lists_of c.backtrack.new.self) c.levels_before-level.result c.top_of-top.result c.backtrack.ensures.backed c.backtrack.ensures.level c.levels_before-level.ensures.bound c.levels_before-level.ensures.above so.bound in

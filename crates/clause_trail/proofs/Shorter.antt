@@ -1,0 +1,157 @@
+-- Why a clause made shorter still follows.
+use Rattle.std.proofs.Common.{ℕ, zero, suc, ◌<◌, ◌≤◌, ◌+◌, ◌++◌, Bool, true, false, List, [], ◌∷◌, ◌≡◌, ◌∙◌, ◌⊎◌, inl, inr, ⊎_elim, refl, sym, ap, subst, Some, length, arith, replicate, not, take}
+use Rattle.std.specs.Prelude.{slice_get, slice_set, slice_index_or}
+use Rattle.std.specs.Bool.{OnTrue}
+use Rattle.std.proofs.lemmas.List.{length-replicate}
+use Rattle.std.proofs.lemmas.Option.{same_Some, slice_get_within}
+use Rattle.clause_logic.specs.declared.Lit.{Lit}
+use Rattle.clause_logic.specs.Clauses.{opposite, In, Makes, Models, Follows, Listed}
+use Rattle.clause_logic.specs.Trails.{IsPlaced, FalseBefore, Learned}
+use Rattle.clause_logic.proofs.Gets.{length_set, set_cases}
+use Rattle.clause_logic.proofs.Lits.{opposite_twice, lit_cases}
+use Rattle.clause_logic.proofs.Members.{in_push, in_last, in_push_cases, get_from_in}
+use Rattle.clause_trail.specs.View.{Lists, Sound, Implied}
+use Rattle.clause_trail.specs.Shortening.{MarksFalse, IsEarlier, IsRedundant, Shortens}
+use Rattle.clause_trail.proofs.Counts.{fresh_false, read_there}
+use Rattle.clause_trail.proofs.Resolving.{makes_both, holds_cases}
+
+module _ (clauses : List Lit → Type 0) (order lits kept : List Lit) (places : List ℕ) (placed : IsPlaced order places) (shortens : Shortens clauses order lits kept) where
+  -- a model that makes the literals kept false does so with those left out
+  left_false : (s : ℕ → Bool) → Models s clauses → ((m : Lit) → In m kept → Makes s (opposite m)) → (n q : ℕ) → q < n → (m : Lit) → In m lits → slice_get order q ≡ Some (opposite m) → Makes s (opposite m)
+  left_false s models all zero q h m i at = absurd (omega (arith, h))
+  left_false s models all (suc n) q h m i at =
+      ⊎_elim
+      (λ k. all m k)
+      (λ r.
+      let t = models r.reason r.among in
+      let same : r.place ≡ q = same_Some r.place q (sym (placed r.place (opposite m) r.there) ∙ placed q (opposite m) at) in
+      ⊎_elim
+      (λ e. subst (Makes s) e t.2)
+      (λ f. absurd (makes_both s t.0 t.2 (left_false s models all n f.before.0 (omega (arith, h, same, f.before.1)) t.0 f.has f.before.2)))
+      (r.others t.0 t.1))
+      (shortens.each m i)
+
+  pub shorter_follows : (l : Lit) → ((m : Lit) → In m lits → FalseBefore order (length order) m) → Follows clauses (lits ++ l ∷ []) → Follows clauses (kept ++ l ∷ [])
+  shorter_follows l false_there follows s models =
+      ⊎_elim
+      (λ h. h)
+      (λ all. absurd (
+      let t = follows s models in
+      ⊎_elim
+      (λ e. makes_both s t.0 t.2 (subst (λ (x : Lit). Makes s (opposite x)) e (all l (in_last kept l))))
+      (λ i. let f = false_there t.0 i in makes_both s t.0 t.2 (left_false s models (λ m k. all m (in_push kept l m k)) (length order) f.0 f.1 t.0 i f.2))
+      (in_push_cases lits l t.0 t.1)))
+      (holds_cases s (kept ++ l ∷ []))
+
+-- more clauses serve as well
+pub shortens_more : (less more : List Lit → Type 0) (order lits kept : List Lit) → ((d : List Lit) → less d → more d) → Shortens less order lits kept → Shortens more order lits kept
+shortens_more less more order lits kept sub is = record {
+  among = is.among;
+  each = λ m i. ⊎_elim inl (λ r. inr (record { place = r.place; there = r.there; reason = r.reason; among = sub r.reason r.among; others = r.others })) (is.each m i);
+}
+
+-- the clause of analysis, made shorter
+pub shorter_learned : (clauses : List Lit → Type 0) (order : List Lit) (places : List ℕ) (start : ℕ) (c lower kept : List Lit) (l : Lit) → IsPlaced order places → (learned : Learned clauses order start c) → lower ≡ learned.0 → l ≡ learned.1
+    → ((m : Lit) → In m lower → FalseBefore order (length order) m) → Shortens clauses order lower kept → Learned clauses order start (kept ++ l ∷ [])
+shorter_learned clauses order places start c lower kept l placed learned same_lower same_last false_there shortens = (
+  kept,
+  l,
+  refl,
+  shorter_follows clauses order lower kept places placed shortens l false_there
+      (subst (Follows clauses) (learned.2 ∙ ap (λ (xs : List Lit). xs ++ learned.1 ∷ []) (sym same_lower) ∙ ap (λ (x : Lit). lower ++ x ∷ []) (sym same_last)) learned.3),
+  (λ m i. learned.4 m (subst (In m) same_lower (shortens.among m i))),
+  (learned.5.0, learned.5.1, learned.5.2 ∙ ap (λ (x : Lit). Some (opposite x)) (sym same_last)),
+)
+
+pub take_all : (xs : List Lit) (n : ℕ) → length xs ≤ n → take n xs ≡ xs
+take_all [] zero h = refl
+take_all [] (suc n) h = refl
+take_all (x ∷ xs) zero h = absurd (omega (arith, h))
+take_all (x ∷ xs) (suc n) h = ap (λ (ys : List Lit). x ∷ ys) (take_all xs n (omega (arith, h)))
+
+pub on_true : {P Q : Type 0} → (b : Bool) → (P → Q) → OnTrue b P → OnTrue b Q
+on_true true f h = f h
+on_true false f h = h
+
+-- where a literal that is false stands, as the code reads the place
+pub found_at : (order : List Lit) (places : List ℕ) (var : ℕ) (m : Lit) → IsPlaced order places → (m.var ≡ var) ⊎ FalseBefore order (length order) m → (m.var ≡ var → ⊥)
+    → (p : ℕ) × (p < length order) × (slice_get places m.var ≡ Some p) × (slice_get order p ≡ Some (opposite m))
+found_at order places var m placed which apart = ⊎_elim (λ e. absurd (apart e)) (λ f. (f.0, f.1, placed f.0 (opposite m) f.2, f.2)) which
+
+pub read_found : (order : List Lit) (places : List ℕ) (var : ℕ) (m : Lit) → IsPlaced order places → (m.var ≡ var) ⊎ FalseBefore order (length order) m → (m.var ≡ var → ⊥) → (place : ℕ) → place ≡ slice_index_or places m.var place
+    → (place < length order) × (slice_get places m.var ≡ Some place)
+read_found order places var m placed which apart place read =
+    let f = found_at order places var m placed which apart in
+    let there : slice_get places m.var ≡ Some place = read_there places m.var place (slice_get_within places m.var f.0 f.2) read in
+    let e : f.0 ≡ place = same_Some f.0 place (sym f.2 ∙ there) in
+    (omega (arith, e, f.1), there)
+
+-- no mark
+pub marks_none : (order : List Lit) (marks : List Bool) (n : ℕ) → marks ≡ replicate n false → n ≡ length order → MarksFalse order [] marks
+marks_none order marks n is e = record {
+  count = ap length is ∙ length-replicate n false ∙ e;
+  marked = λ p l h. absurd (fresh_false n p (ap (λ (bs : List Bool). slice_get bs p) (sym is) ∙ h));
+}
+
+-- one mark more
+pub marks_more : (order xs : List Lit) (x : Lit) (old new : List Bool) (place : ℕ) → MarksFalse order xs old → new ≡ slice_set old place true → slice_get order place ≡ Some (opposite x) → MarksFalse order (xs ++ x ∷ []) new
+marks_more order xs x old new place so is at = record {
+  count = ap length is ∙ length_set old place true ∙ so.count;
+  marked = λ p l h k.
+      ⊎_elim
+      (λ e. subst (λ (y : Lit). In y (xs ++ x ∷ [])) (sym (opposite_twice x) ∙ ap opposite (same_Some (opposite x) l (sym at ∙ ap (slice_get order) e.0 ∙ k))) (in_last xs x))
+      (λ d. in_push xs x (opposite l) (so.marked p l d.1 k))
+      (set_cases old place p true true (ap (λ (bs : List Bool). slice_get bs p) (sym is) ∙ h));
+}
+
+-- what is known of a literal that is false
+module _ (t : Lists) (m : Lit) (sound : Sound t) (is_false : FalseBefore t.order (length t.order) m) where
+  pub false_known : m.var < length t.reasons
+  false_known = omega (arith, sound.base.reasons, slice_get_within t.values m.var (Some (not m.positive)) (sound.base.true_there is_false.0 (opposite m) is_false.2))
+
+  module _ (reason : ℕ) (read : Some reason ≡ slice_index_or t.reasons m.var (Some reason)) where
+    pub false_reason : Implied t.clauses t.order is_false.0 (opposite m) reason
+    false_reason = sound.base.implied is_false.0 (opposite m) reason is_false.2 (read_there t.reasons m.var (Some reason) false_known read)
+
+    module _ (lits : List Lit) (at : slice_get t.clauses reason ≡ Some lits) where
+      others : (x : Lit) → In x lits → (x ≡ opposite m) ⊎ FalseBefore t.order is_false.0 x
+      others x i =
+          let same : lits ≡ false_reason.lits = same_Some lits false_reason.lits (sym at ∙ false_reason.is) in
+          let g = get_from_in false_reason.lits x (subst (In x) same i) in
+          ⊎_elim inl (λ n. inr (let b = false_reason.others x (record { at = g.0; is = g.1 }) n in (b.at, b.below, b.is))) (lit_cases x (opposite m))
+
+      pub false_others : (x : Lit) → In x lits → (x.var ≡ m.var) ⊎ FalseBefore t.order (length t.order) x
+      false_others x i = ⊎_elim (λ e. inl (ap (λ (l : Lit). l.var) e)) (λ f. inr (f.0, slice_get_within t.order f.0 (opposite x) f.2, f.2)) (others x i)
+
+      -- where its reason's other literals are marked, it is redundant
+      pub redundant : (all : List Lit) (marks : List Bool) → MarksFalse t.order all marks → ((x : Lit) → In x lits → (x.var ≡ m.var) ⊎ ((p : ℕ) × (slice_get t.places x.var ≡ Some p) × (slice_get marks p ≡ Some true))) → IsRedundant (Listed t.clauses) t.order all m
+      redundant all marks so marked = record {
+        place = is_false.0;
+        there = is_false.2;
+        reason = lits;
+        among = (reason, at);
+        others = λ x i. ⊎_elim
+            inl
+            (λ f. ⊎_elim
+            (λ e. absurd (omega (arith, sound.base.once f.0 is_false.0 (opposite x) (opposite m) f.2 is_false.2 e, f.1)))
+            (λ k.
+            let e : f.0 ≡ k.0 = same_Some f.0 k.0 (sym (sound.base.found f.0 (opposite x) f.2) ∙ k.1) in
+            inr (record { has = subst (λ (y : Lit). In y all) (opposite_twice x) (so.marked k.0 (opposite x) k.2 (ap (slice_get t.order) (sym e) ∙ f.2)); before = f }))
+            (marked x i))
+            (others x i);
+      }
+
+-- one literal more looked at
+module _ (clauses : List Lit → Type 0) (order lits seen kept : List Lit) (x : Lit) (among : (m : Lit) → In m kept → In m lits) (each : (m : Lit) → In m seen → In m kept ⊎ IsRedundant clauses order lits m) where
+  pub left_more : IsRedundant clauses order lits x → (m : Lit) → In m (seen ++ x ∷ []) → In m kept ⊎ IsRedundant clauses order lits m
+  left_more is m i = ⊎_elim (λ e. inr (subst (IsRedundant clauses order lits) e is)) (λ k. each m k) (in_push_cases seen x m i)
+
+  pub kept_more : (new : List Lit) → new ≡ kept ++ x ∷ [] → (m : Lit) → In m (seen ++ x ∷ []) → In m new ⊎ IsRedundant clauses order lits m
+  kept_more new is m i = rw is
+      (⊎_elim
+      (λ e. inl (subst (λ (y : Lit). In y (kept ++ x ∷ [])) e (in_last kept x)))
+      (λ k. ⊎_elim (λ h. inl (in_push kept x m h)) inr (each m k))
+      (in_push_cases seen x m i))
+
+  pub kept_among : (new : List Lit) → new ≡ kept ++ x ∷ [] → In x lits → (m : Lit) → In m new → In m lits
+  kept_among new is there m i = ⊎_elim (λ e. subst (λ (y : Lit). In y lits) e there) (λ k. among m k) (in_push_cases kept x m (subst (In m) is i))
