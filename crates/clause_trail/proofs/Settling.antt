@@ -113,8 +113,8 @@ chosen_grown old new assumed order decisions chosen i l at none =
     let d = decisions i l at none in
     ⊎_elim inl (λ all. inr (λ a k. let f = all a k in (f.0, f.1, order f.0 a f.2))) (chosen i l d.0 d.1)
 
-pub chosen_asserted : (old new : Lists) (assumed lits : List Lit) (l : Lit) (c : ℕ) → Asserted old new lits l c → Chosen old assumed → Chosen new assumed
-chosen_asserted old new assumed lits l c is =
+pub chosen_asserted : (old new : Lists) (assumed lits : List Lit) (l : Lit) → Asserted old new lits l → Chosen old assumed → Chosen new assumed
+chosen_asserted old new assumed lits l is =
     chosen_grown old new assumed (λ i x at. ap (λ o. slice_get o i) is.order ∙ push_old old.order l x i at) is.decisions
 
 pub chosen_decided : (t : Lists) (assumed : List Lit) (l : Lit) → Base t → Chosen t assumed → slice_get t.values l.var ≡ Some None → In l assumed ⊎ ((a : Lit) → In a assumed → Prefix t.order (length t.order) a) → Chosen (assigned t l None) assumed

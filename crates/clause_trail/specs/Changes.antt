@@ -99,7 +99,7 @@ pub record Asserts (t : Lists) (lits : List Lit) (pair : Pair) : Type 0 where
   pub latest : (n s : ℕ) → slice_get t.starts n ≡ Some s → (pair.first ≡ pair.second → ⊥) × (Before t.order s (opposite pair.second) → ⊥)
 
 -- a clause was added that makes its literal true
-pub record Asserted (old new : Lists) (lits : List Lit) (l : Lit) (c : ℕ) : Type 0 where
+pub record Asserted (old new : Lists) (lits : List Lit) (l : Lit) : Type 0 where
   pub clauses : new.clauses ≡ old.clauses ++ lits ∷ []
   pub values : new.values ≡ slice_set old.values l.var (Some l.positive)
   pub order : new.order ≡ old.order ++ l ∷ []

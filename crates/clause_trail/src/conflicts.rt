@@ -148,7 +148,9 @@ impl State {
         ensures clauses { OnOk result (self.new.clauses.items ≡ self.old.clauses.items ++ clause ∷ []) }
         ensures vars { length self.new.values.items ≡ length self.old.values.items }
     {
+        let lits = clause.len();
         self.assert_clause(clause)?;
+        self.relevance.learned(lits);
         self.restart();
         Ok(())
     }

@@ -584,7 +584,7 @@ impl State {
     }
 
     /// Keeps a clause of which two literals are not false.
-    pub fn attach(&mut self, clause: Clause, pair: Pair) -> Result<usize, AllocError>
+    pub fn attach(&mut self, clause: Clause, pair: Pair) -> Result<(), AllocError>
         requires sound { Sound (lists_of self.old) }
         requires wide { Wide (lists_of self.old) clause pair }
         ensures sound { Sound (lists_of self.new) }
@@ -594,22 +594,22 @@ impl State {
     {
         let c = self.prepare(pair)?;
         self.clauses.push(clause)?;
-        Ok(c)
+        Ok(())
     }
 
     /// Keeps a clause that makes its first watched literal true: the others are false, and the
     /// second watched literal became so after each level's start.
-    pub fn learn(&mut self, clause: Clause, pair: Pair) -> Result<usize, AllocError>
+    pub fn learn(&mut self, clause: Clause, pair: Pair) -> Result<(), AllocError>
         requires sound { Sound (lists_of self.old) }
         requires asserts { Asserts (lists_of self.old) clause pair }
         ensures sound { Sound (lists_of self.new) }
-        ensures ok { IfOk result (λ c. Asserted (lists_of self.old) (lists_of self.new) clause pair.first c) }
+        ensures ok { OnOk result (Asserted (lists_of self.old) (lists_of self.new) clause pair.first) }
         ensures err { OnErr result (SameBut (lists_of self.old) (lists_of self.new)) }
     {
         let c = self.prepare(pair)?;
         self.clauses.push(clause)?;
         match self.enqueue(pair.first, Some(c)) {
-            Ok(()) => Ok(c),
+            Ok(()) => Ok(()),
             Err(error) => {
                 self.clauses.pop();
                 Err(error)
@@ -657,7 +657,7 @@ impl State {
     }
 
     /// Keeps a clause that is true at the root.
-    fn attach_true(&mut self, clause: Clause, lit: Lit) -> Result<usize, AllocError>
+    fn attach_true(&mut self, clause: Clause, lit: Lit) -> Result<(), AllocError>
         requires sound { Sound (lists_of self.old) }
         requires root { self.old.starts.items ≡ [] }
         requires known { (l : Lit) → Has clause l → l.var < length self.old.values.items }
@@ -674,7 +674,7 @@ impl State {
         };
         let c = self.prepare(pair)?;
         self.clauses.push(clause)?;
-        Ok(c)
+        Ok(())
     }
 
     /// Adds a clause at the root, unless it is false there.

@@ -39,5 +39,5 @@ learn-requires-clause-asserts c =
 
 pub returns-clause-chosen : goal.returns-clause-chosen
 returns-clause-chosen c = λ assumed h.
-    chosen_asserted (lists_of c.backtrack.new.self) (lists_of c.learn.new.self) assumed c.args.clause _ c.in_ok-learn.field-0 c.in_ok-learn.ensures.ok
+    chosen_asserted (lists_of c.backtrack.new.self) (lists_of c.learn.new.self) assumed c.args.clause _ c.in_ok-learn.ensures.ok
     (chosen_shrunk (lists_of c.args.self.now) (lists_of c.backtrack.new.self) assumed c.backtrack.ensures.backed.shrunk h)
