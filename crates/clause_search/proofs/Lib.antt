@@ -1,4 +1,5 @@
 pub mod Layers
 pub mod Loads
+pub mod Reductions
 pub mod Rounding
 pub mod Takes

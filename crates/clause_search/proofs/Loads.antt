@@ -1,11 +1,11 @@
 -- A state made of the added clauses.
-use Rattle.std.proofs.Common.{ℕ, zero, suc, ◌<◌, ◌+◌, ◌++◌, Bool, List, [], ◌∷◌, ◌≡◌, ◌∙◌, Option, Some, None, inl, inr, ⊎_elim, refl, sym, ap, subst, length, arith, take}
+use Rattle.std.proofs.Common.{ℕ, zero, suc, ◌<◌, ◌+◌, ◌++◌, Bool, List, [], ◌∷◌, ◌≡◌, ◌∙◌, Option, Some, None, inl, inr, ⊎_elim, refl, sym, ap, subst, length, arith, take, drop}
 use Rattle.std.specs.Prelude.{slice_get}
 use Rattle.std.proofs.lemmas.Option.{slice_get_within}
 use Rattle.clause_logic.specs.declared.Lit.{Lit}
-use Rattle.clause_logic.specs.Clauses.{In, Models, Listed}
+use Rattle.clause_logic.specs.Clauses.{In, Models, Listed, IsRecord}
 use Rattle.clause_logic.specs.Trails.{IsCore, FalseBefore}
-use Rattle.clause_logic.proofs.Records.{record_none}
+use Rattle.clause_logic.proofs.Records.{record_none, derived_none}
 use Rattle.clause_logic.proofs.Gets.{push_here, push_old, length_push}
 use Rattle.clause_logic.proofs.Members.{get_from_in}
 use Rattle.clause_trail.specs.Words.{AllFalse}
@@ -16,7 +16,8 @@ use Rattle.clause_trail.proofs.Cores.{core_refutes}
 use Rattle.clause_trail.proofs.Settling.{rooted_of, false_on_trail}
 use Rattle.clause_search.specs.Answers.{IsUnsatCore}
 use Rattle.clause_search.specs.Loading.{IsRoot, Impossible}
-use Rattle.clause_search.specs.Solving.{Going}
+use Rattle.clause_search.specs.declared.Turns.{Turns}
+use Rattle.clause_search.specs.Solving.{Going, Recorded}
 use Rattle.clause_search.proofs.Takes.{take_next}
 
 -- at the root nothing is decided
@@ -71,9 +72,17 @@ root_going t n added stands assumed root = record {
   sound = root.sound;
   learned = [];
   clauses = root.clauses ∙ append_none added;
-  recorded = record_none (Listed added) stands assumed;
+  derived = derived_none (Listed added) stands;
   chosen = root_chosen t assumed root.sound root.starts;
 }
+
+append_end : (xs : List (List Lit)) → drop (length xs) xs ≡ []
+append_end [] = refl
+append_end (x ∷ xs) = append_end xs
+
+pub root_recorded : (t : Lists) (n : ℕ) (added : List (List Lit)) (stands : List Lit → Type 0) (assumed : List Lit) (limit : Turns) → IsRoot t n added → Recorded t.clauses added stands assumed limit
+root_recorded t n added stands assumed limit root k counted =
+    subst (IsRecord (Listed added) stands assumed) (sym (ap (drop (length added)) root.clauses ∙ append_end added)) (record_none (Listed added) stands assumed)
 
 pub impossible_core : (added : List (List Lit)) (stands : List Lit → Type 0) (assumed core : List Lit) → Impossible added → core ≡ [] → IsUnsatCore added stands assumed core
 impossible_core added stands assumed core none is = record {

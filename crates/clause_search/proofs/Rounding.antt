@@ -4,13 +4,13 @@ use Rattle.std.specs.Prelude.{slice_get, slice_set}
 use Rattle.std.proofs.lemmas.Option.{same_Some, slice_get_within}
 use Rattle.std.proofs.lemmas.Bool.{cases_lt, cases_eq}
 use Rattle.clause_logic.specs.declared.Lit.{Lit}
-use Rattle.clause_logic.specs.Clauses.{opposite, In, Models, Holds, Follows, Both, Listed, IsRecord}
+use Rattle.clause_logic.specs.Clauses.{opposite, In, Models, Holds, Follows, Both, Listed, IsDerived, IsRecord}
 use Rattle.clause_logic.specs.Trails.{FalseBefore, Prefix, Learned, IsCore, MakesAll}
 use Rattle.clause_logic.specs.Bound.{search_weight}
 use Rattle.clause_logic.proofs.Gets.{get_in, push_cases, length_push, length_set}
 use Rattle.clause_logic.proofs.Members.{get_from_in}
 use Rattle.clause_logic.proofs.Learning.{all_false}
-use Rattle.clause_logic.proofs.Turns.{turn_record, record_short}
+use Rattle.clause_logic.proofs.Turns.{turn_record, turn_derived, derived_short}
 use Rattle.clause_logic.proofs.Bound.{learning_falls, deciding_falls}
 use Rattle.clause_trail.specs.Words.{open_count, Open, AllFalse, Propagated, True}
 use Rattle.clause_trail.specs.View.{Lists, Base, Sound, assigned}
@@ -27,28 +27,28 @@ use Rattle.clause_search.specs.declared.checker.Look.{Look}
 use Rattle.clause_search.specs.declared.solving.Round.{Round}
 use Rattle.clause_search.specs.declared.solving.Round.TheVariants as round
 use Rattle.clause_search.specs.Answers.{IsSolution, IsUnsatCore, IsOverLimit, Justified, IsTrueIn}
-use Rattle.clause_search.specs.Solving.{Going, Rounds, weight}
+use Rattle.clause_search.specs.Solving.{Going, Recorded, Rounds, Stretches, weight}
 use Rattle.clause_search.proofs.Takes.{drop_front}
 
-append_cases : (xs ys : List (List Lit)) (i : ℕ) (c : List Lit) → slice_get (xs ++ ys) i ≡ Some c → Listed xs c ⊎ ((j : ℕ) × (slice_get ys j ≡ Some c))
+pub append_cases : (xs ys : List (List Lit)) (i : ℕ) (c : List Lit) → slice_get (xs ++ ys) i ≡ Some c → Listed xs c ⊎ ((j : ℕ) × (slice_get ys j ≡ Some c))
 append_cases [] ys i c h = inr (i, h)
 append_cases (x ∷ xs) ys zero c h = inl (zero, h)
 append_cases (x ∷ xs) ys (suc i) c h = ⊎_elim (λ f. inl (suc f.0, f.1)) inr (append_cases xs ys i c h)
 
-append_left : (xs ys : List (List Lit)) (c : List Lit) → Listed xs c → Listed (xs ++ ys) c
+pub append_left : (xs ys : List (List Lit)) (c : List Lit) → Listed xs c → Listed (xs ++ ys) c
 append_left [] ys c (i, h) = absurd (cc h)
 append_left (x ∷ xs) ys c (zero, h) = (zero, h)
 append_left (x ∷ xs) ys c (suc i, h) = let r = append_left xs ys c (i, h) in (suc r.0, r.1)
 
-append_right : (xs ys : List (List Lit)) (c : List Lit) → Listed ys c → Listed (xs ++ ys) c
+pub append_right : (xs ys : List (List Lit)) (c : List Lit) → Listed ys c → Listed (xs ++ ys) c
 append_right [] ys c h = h
 append_right (x ∷ xs) ys c h = let r = append_right xs ys c h in (suc r.0, r.1)
 
-append_assoc_one : (xs ys : List (List Lit)) (c : List Lit) → (xs ++ ys) ++ c ∷ [] ≡ xs ++ (ys ++ c ∷ [])
+pub append_assoc_one : (xs ys : List (List Lit)) (c : List Lit) → (xs ++ ys) ++ c ∷ [] ≡ xs ++ (ys ++ c ∷ [])
 append_assoc_one [] ys c = refl
 append_assoc_one (x ∷ xs) ys c = ap (λ zs. x ∷ zs) (append_assoc_one xs ys c)
 
-append_length : (xs ys : List (List Lit)) → length (xs ++ ys) ≡ length xs + length ys
+pub append_length : (xs ys : List (List Lit)) → length (xs ++ ys) ≡ length xs + length ys
 append_length [] ys = omega arith
 append_length (x ∷ xs) ys = omega (arith, append_length xs ys)
 
@@ -64,7 +64,7 @@ module _ (t : Lists) (added : List (List Lit)) (stands : List Lit → Type 0) (a
   lawful d (i, h) s models =
       ⊎_elim
       (λ a. models d (inl a))
-      (λ l. going.recorded.follows l.0 d l.1 s models)
+      (λ l. going.derived.follows l.0 d l.1 s models)
       (append_cases added going.learned i d (ap (λ (cs : List (List Lit)). slice_get cs i) (sym going.clauses) ∙ h))
 
   pub learned_count : length t.clauses - length added ≡ length going.learned
@@ -95,13 +95,23 @@ module _ (t : Lists) (added : List (List Lit)) (stands : List Lit → Type 0) (a
     clauses_are : u.clauses ≡ added ++ going.learned
     clauses_are = same ∙ going.clauses
 
-    pub longer : IsRecord (Listed added) stands assumed (going.learned ++ c ∷ [])
+    kept : (d : List Lit) → Both (Listed added) (Listed going.learned) d → Listed u.clauses d
+    kept d there = subst (λ (cs : List (List Lit)). Listed cs d) (sym clauses_are) (⊎_elim (append_left added going.learned d) (append_right added going.learned d) there)
+
+    lawful_there : (d : List Lit) → Listed u.clauses d → Follows (Both (Listed added) stands) d
+    lawful_there d there = lawful d (subst (λ (cs : List (List Lit)). Listed cs d) same there)
+
+    longer_derived : IsDerived (Listed added) stands (going.learned ++ c ∷ [])
+    longer_derived =
+        turn_derived (Listed added) stands assumed going.learned u.clauses u.order u.places sound.base.found derives.start
+        (complete_at u derives.last.0 derives.start sound derives.last.1) derives.assumed_there lawful_there lits c follows derives.learned
+        (λ d there. kept d (inr there)) going.derived
+
+    longer : IsRecord (Listed added) stands assumed going.learned → IsRecord (Listed added) stands assumed (going.learned ++ c ∷ [])
     longer =
         turn_record (Listed added) stands assumed going.learned u.clauses u.order u.places sound.base.found derives.start
-        (complete_at u derives.last.0 derives.start sound derives.last.1) derives.assumed_there
-        (λ d there. subst (λ (cs : List (List Lit)). Listed cs d) (sym clauses_are) (⊎_elim (append_left added going.learned d) (append_right added going.learned d) there))
-        (λ d there. lawful d (subst (λ (cs : List (List Lit)). Listed cs d) same there))
-        lits c follows derives.learned going.recorded
+        (complete_at u derives.last.0 derives.start sound derives.last.1) derives.assumed_there lawful_there lits c follows derives.learned
+        kept
 
     longer_known : (i : ℕ) (d : List Lit) (l : Lit) → slice_get (going.learned ++ c ∷ []) i ≡ Some d → In l d → l.var < length t.values
     longer_known i d l at k =
@@ -116,17 +126,17 @@ module _ (t : Lists) (added : List (List Lit)) (stands : List Lit → Type 0) (a
         (push_cases going.learned c d i at)
 
     longer_short : length going.learned + 1 ≤ 3 ^ length t.values
-    longer_short = omega (arith, record_short (Listed added) stands assumed (going.learned ++ c ∷ []) (length t.values) longer longer_known, length_push going.learned c)
+    longer_short = omega (arith, derived_short (Listed added) stands (going.learned ++ c ∷ []) (length t.values) longer_derived longer_known, length_push going.learned c)
 
-    pub over_round : (limit : Turns) (n : ℕ) (cs : List (List Lit)) → limit ≡ turns.Counted n → n ≡ length u.clauses - length added → cs ≡ drop (length added) u.clauses ++ c ∷ [] → IsOverLimit (length t.values) added stands assumed limit cs
-    over_round limit n cs counted number is =
+    pub over_round : (limit : Turns) (n : ℕ) (cs : List (List Lit)) → Recorded t.clauses added stands assumed limit → limit ≡ turns.Counted n → n ≡ length u.clauses - length added → cs ≡ drop (length added) u.clauses ++ c ∷ [] → IsOverLimit (length t.values) added stands assumed limit cs
+    over_round limit n cs recorded counted number is =
         let e : n ≡ length going.learned = number ∙ ap (λ (xs : List (List Lit)). length xs - length added) same ∙ learned_count in
         let f : cs ≡ going.learned ++ c ∷ [] = is ∙ ap (λ (xs : List (List Lit)). xs ++ c ∷ []) (ap (drop (length added)) same ∙ learned_drop) in
         record {
           number = n;
           counted = counted;
           count = ap length f ∙ length_push going.learned c ∙ ap (λ (m : ℕ). m + 1) (sym e);
-          recorded = subst (IsRecord (Listed added) stands assumed) (sym f) longer;
+          recorded = subst (IsRecord (Listed added) stands assumed) (sym f) (longer (subst (IsRecord (Listed added) stands assumed) learned_drop (recorded n counted)));
           known = λ i d l at k. longer_known i d l (ap (λ (xs : List (List Lit)). slice_get xs i) (sym f) ∙ at) k;
           small = omega (arith, e, longer_short);
         }
@@ -136,9 +146,15 @@ module _ (t : Lists) (added : List (List Lit)) (stands : List Lit → Type 0) (a
       sound = sound_v;
       learned = going.learned ++ c ∷ [];
       clauses = is ∙ ap (λ (xs : List (List Lit)). xs ++ c ∷ []) clauses_are ∙ append_assoc_one added going.learned c;
-      recorded = longer;
+      derived = longer_derived;
       chosen = chosen;
     }
+
+    pub turn_recorded : (limit : Turns) (v : Lists) → v.clauses ≡ u.clauses ++ c ∷ [] → Recorded t.clauses added stands assumed limit → Recorded v.clauses added stands assumed limit
+    turn_recorded limit v is recorded n counted =
+        let e : drop (length added) v.clauses ≡ going.learned ++ c ∷ [] =
+        ap (drop (length added)) (is ∙ ap (λ (xs : List (List Lit)). xs ++ c ∷ []) clauses_are ∙ append_assoc_one added going.learned c) ∙ drop_front added (going.learned ++ c ∷ []) in
+        subst (IsRecord (Listed added) stands assumed) (sym e) (longer (subst (IsRecord (Listed added) stands assumed) learned_drop (recorded n counted)))
 
     pub turn_falls : (v : Lists) → v.clauses ≡ u.clauses ++ c ∷ [] → length v.values ≡ length u.values → weight v added < weight t added
     turn_falls v is count =
@@ -153,7 +169,7 @@ module _ (t : Lists) (added : List (List Lit)) (stands : List Lit → Type 0) (a
     sound = sound;
     learned = going.learned;
     clauses = grown.clauses ∙ going.clauses;
-    recorded = going.recorded;
+    derived = going.derived;
     chosen = chosen_grown t u assumed grown.order grown.decisions going.chosen;
   }
 
@@ -163,7 +179,7 @@ module _ (t : Lists) (added : List (List Lit)) (stands : List Lit → Type 0) (a
     sound = sound;
     learned = going.learned;
     clauses = ap (λ (x : Lists). x.clauses) is ∙ going.clauses;
-    recorded = going.recorded;
+    derived = going.derived;
     chosen = subst (λ (x : Lists). Chosen x assumed) (sym is) (chosen_decided t assumed l going.sound.base going.chosen free why);
   }
 
@@ -238,12 +254,18 @@ module _ (added : List (List Lit)) (stands others : List Lit → Type 0) (same :
     new = r.new;
   }
 
+  derived_same : (cs : List (List Lit)) → IsDerived (Listed added) stands cs → IsDerived (Listed added) others cs
+  derived_same cs r = record { plain = r.plain; different = r.different; follows = λ i c at. follows_same c (r.follows i c at) }
+
+  pub recorded_same : (clauses : List (List Lit)) (assumed : List Lit) (limit : Turns) → Recorded clauses added stands assumed limit → Recorded clauses added others assumed limit
+  recorded_same clauses assumed limit recorded n counted = record_same assumed (drop (length added) clauses) (recorded n counted)
+
   pub going_same : (t : Lists) (assumed : List Lit) → Going t added stands assumed → Going t added others assumed
   going_same t assumed going = record {
     sound = going.sound;
     learned = going.learned;
     clauses = going.clauses;
-    recorded = record_same assumed going.learned going.recorded;
+    derived = derived_same going.learned going.derived;
     chosen = going.chosen;
   }
 
@@ -251,7 +273,7 @@ module _ (added : List (List Lit)) (stands others : List Lit → Type 0) (same :
   pub follows_stands : (c : List Lit) → Follows stands c → Follows (Both (Listed added) others) c
   follows_stands c follows s models = follows s (λ d there. models d (inr ((same d).1 there)))
 
-  core_same : (assumed core : List Lit) → IsUnsatCore added stands assumed core → IsUnsatCore added others assumed core
+  pub core_same : (assumed core : List Lit) → IsUnsatCore added stands assumed core → IsUnsatCore added others assumed core
   core_same assumed core is = record {
     assumptions = is.assumptions;
     once = is.once;
@@ -269,7 +291,7 @@ module _ (added : List (List Lit)) (stands others : List Lit → Type 0) (same :
   }
 
   rounds_stands : {S : Type 0} (n : ℕ) (assumed : List Lit) (limit : Turns) (newest : Option (List (Option Bool) × Look S)) (a b : ℕ) (u : Lists) (r : Round S) → a ≤ b → Rounds n added stands assumed limit newest a u r → Rounds n added others assumed limit newest b u r
-  rounds_stands n assumed limit newest a b u round.Next h (going, vars, falls) = (going_same u assumed going, vars, omega (arith, h, falls))
+  rounds_stands n assumed limit newest a b u round.Next h (going, vars, falls, recorded) = (going_same u assumed going, vars, omega (arith, h, falls), recorded_same u.clauses assumed limit recorded)
   rounds_stands n assumed limit newest a b u (round.Done (answer.Sat values)) h j = j
   rounds_stands n assumed limit newest a b u (round.Done (answer.Unsat core)) h j = core_same assumed core j
   rounds_stands n assumed limit newest a b u (round.Done (answer.Unknown cs)) h j = over_same n assumed limit cs j
@@ -278,3 +300,10 @@ module _ (added : List (List Lit)) (stands others : List Lit → Type 0) (same :
 
   pub rounds_same : {S : Type 0} (n m : ℕ) (assumed : List Lit) (limit : Turns) (newest : Option (List (Option Bool) × Look S)) (a b : ℕ) (u : Lists) (r : Round S) → n ≡ m → a ≤ b → Rounds n added stands assumed limit newest a u r → Rounds m added others assumed limit newest b u r
   rounds_same n m assumed limit newest a b u r e h j = subst (λ (k : ℕ). Rounds k added others assumed limit newest b u r) e (rounds_stands n assumed limit newest a b u r h j)
+
+  stretches_stands : {S : Type 0} (n : ℕ) (assumed : List Lit) (limit : Turns) (newest : Option (List (Option Bool) × Look S)) (may : Bool) (u : Lists) (r : Round S) → Stretches n added stands assumed limit newest may u r → Stretches n added others assumed limit newest may u r
+  stretches_stands n assumed limit newest may u round.Next (going, vars, is) = (going_same u assumed going, vars, is)
+  stretches_stands n assumed limit newest may u (round.Done a) j = rounds_stands n assumed limit newest 0 0 u (round.Done a) (omega arith) j
+
+  pub stretches_same : {S : Type 0} (n m : ℕ) (assumed : List Lit) (limit : Turns) (newest : Option (List (Option Bool) × Look S)) (may : Bool) (u : Lists) (r : Round S) → n ≡ m → Stretches n added stands assumed limit newest may u r → Stretches m added others assumed limit newest may u r
+  stretches_same n m assumed limit newest may u r e j = subst (λ (k : ℕ). Stretches k added others assumed limit newest may u r) e (stretches_stands n assumed limit newest may u r j)

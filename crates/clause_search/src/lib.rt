@@ -3,6 +3,7 @@
 
 pub mod checker;
 pub mod loading;
+pub mod reducing;
 pub mod search;
 pub mod solving;
 #[cfg(test)]

@@ -34,7 +34,7 @@ fn empty_state(alloc: Global, vars: usize) -> Result<State, AllocError>
 }
 
 /// Shows that a clause that is false at the root can't hold.
-fn refute(alloc: Global, state: &State, lits: &[Lit]) -> Result<(), AllocError>
+pub fn refute(alloc: Global, state: &State, lits: &[Lit]) -> Result<(), AllocError>
     requires sound { Sound (lists_of state.now) }
     requires root { state.now.starts.items ≡ [] }
     requires is_false { AllFalse state.now.values.items lits.now }

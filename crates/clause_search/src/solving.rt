@@ -8,12 +8,13 @@ ghost use Rattle.clause_logic.specs.Trails.{FalseBefore};
 ghost use Rattle.clause_trail.specs.Words.{Open, Propagated};
 ghost use Rattle.clause_trail.specs.View.{lists_of, Sound};
 ghost use Rattle.clause_search.specs.Answers.{Justified, Lawful};
-ghost use Rattle.clause_search.specs.Solving.{Going, Rounds, weight};
+ghost use Rattle.clause_search.specs.Solving.{Going, Recorded, Rounds, Stretches, weight};
 ghost use Rattle.clause_search.specs.declared.Turns.{Turns};
 
+use crate::reducing::reduce;
 use crate::{Answer, Checker, Look, Turns};
 use clause_logic::Lit;
-use clause_logic::lists::{Assignment, Clause, Clauses};
+use clause_logic::lists::{Assignment, Clause, Clauses, Lits};
 use clause_trail::State;
 use clause_trail::conflicts::{Pending, Settled};
 use std::alloc::{AllocError, Global};
@@ -27,7 +28,7 @@ pub enum Round<S> {
 }
 
 /// The literals of a clause, copied.
-fn copy_clause(alloc: Global, state: &State, c: usize) -> Result<Clause, AllocError>
+pub fn copy_clause(alloc: Global, state: &State, c: usize) -> Result<Clause, AllocError>
     requires { c < length state.now.clauses.items }
     ensures { IfOk result (λ lits. slice_get state.now.clauses.items c ≡ Some lits) }
 {
@@ -86,6 +87,7 @@ fn learn_from<C: Checker>(
     requires known { (m : Lit) → In m assumed.now → m.var < length state.old.values.items }
     requires false_there { (m : Lit) → In m lits.now → FalseBefore state.old.order.items (length state.old.order.items) m }
     requires follows { Follows (Both (Listed added.now) (C.stands checker.now)) lits.now }
+    requires recorded { Recorded state.old.clauses.items added.now (C.stands checker.now) assumed.now turns }
     ensures { IfOk result (λ r. Rounds (length state.old.values.items) added.now (C.stands checker.now) assumed.now turns (C.newest checker.now) (weight (lists_of state.old) added.now) (lists_of state.new) r) }
 {
     match state.settle(alloc, assumed, lits)? {
@@ -144,7 +146,7 @@ fn extend<C: Checker>(
     requires propagated { Propagated state.old.values.items state.old.clauses.items }
     requires done { state.old.done ≡ length state.old.order.items }
     requires shown { C.newest checker.now ≡ Some (state.old.values.items, Look.Fits) }
-    ensures { IfOk result (λ r. (turns : Turns) → Rounds (length state.old.values.items) added.now (C.stands checker.now) assumed.now turns (C.newest checker.now) (weight (lists_of state.old) added.now) (lists_of state.new) r) }
+    ensures { IfOk result (λ r. (turns : Turns) → Recorded state.old.clauses.items added.now (C.stands checker.now) assumed.now turns → Rounds (length state.old.values.items) added.now (C.stands checker.now) assumed.now turns (C.newest checker.now) (weight (lists_of state.old) added.now) (lists_of state.new) r) }
 {
     match state.pending(assumed) {
         Pending::Open(lit) => {
@@ -181,6 +183,7 @@ fn ask<C: Checker>(
     checker: &mut C,
 ) -> Result<Round<C::Stop>, AllocError>
     requires going { Going (lists_of state.old) added.now (C.stands checker.old) assumed.now }
+    requires recorded { Recorded state.old.clauses.items added.now (C.stands checker.old) assumed.now turns }
     requires known { (m : Lit) → In m assumed.now → m.var < length state.old.values.items }
     requires propagated { Propagated state.old.values.items state.old.clauses.items }
     requires done { state.old.done ≡ length state.old.order.items }
@@ -213,12 +216,14 @@ fn run_round<C: Checker>(
     checker: &mut C,
 ) -> Result<Round<C::Stop>, AllocError>
     requires going { Going (lists_of state.old) added.now (C.stands checker.old) assumed.now }
+    requires recorded { Recorded state.old.clauses.items added.now (C.stands checker.old) assumed.now turns }
     requires known { (m : Lit) → In m assumed.now → m.var < length state.old.values.items }
     ensures stands { (c : List Lit) → C.stands checker.new c ↔ C.stands checker.old c }
     ensures rounds { IfOk result (λ r. Rounds (length state.old.values.items) added.now (C.stands checker.old) assumed.now turns (C.newest checker.new) (weight (lists_of state.old) added.now) (lists_of state.new) r) }
 {
     match state.propagate()? {
         Some(c) => {
+            state.relevance.touch(c);
             let lits = copy_clause(alloc, state, c)?;
             learn_from(
                 alloc,
@@ -234,6 +239,45 @@ fn run_round<C: Checker>(
     }
 }
 
+/// Whether learned clauses may be thrown away: under a limit each one is kept.
+fn may_reduce(turns: Turns, left: u64) -> bool
+    ensures { OnTrue result ((turns ≡ Turns.Whole) × (0 < left)) }
+{
+    match turns {
+        Turns::Whole => left > 0,
+        Turns::Counted(_) => false,
+    }
+}
+
+/// Runs the search to its end, or as far as there is room for learned clauses where some may be
+/// thrown away.
+fn stretch<C: Checker>(
+    alloc: Global,
+    state: &mut State,
+    added: &[Clause],
+    assumed: &[Lit],
+    turns: Turns,
+    may: bool,
+    checker: &mut C,
+) -> Result<Round<C::Stop>, AllocError>
+    requires going { Going (lists_of state.old) added.now (C.stands checker.old) assumed.now }
+    requires recorded { Recorded state.old.clauses.items added.now (C.stands checker.old) assumed.now turns }
+    requires known { (m : Lit) → In m assumed.now → m.var < length state.old.values.items }
+    ensures stands { (c : List Lit) → C.stands checker.new c ↔ C.stands checker.old c }
+    ensures stretches { IfOk result (λ r. Stretches (length state.old.values.items) added.now (C.stands checker.old) assumed.now turns (C.newest checker.new) may (lists_of state.new) r) }
+{
+    loop {
+        match run_round(alloc, state, added, assumed, turns, checker)? {
+            Round::Next => {
+                if may && state.relevance.is_full() {
+                    return Ok(Round::Next);
+                }
+            }
+            Round::Done(answer) => return Ok(Round::Done(answer)),
+        }
+    }
+}
+
 /// Runs the search to its end.
 pub fn run<C: Checker>(
     alloc: Global,
@@ -244,14 +288,22 @@ pub fn run<C: Checker>(
     checker: &mut C,
 ) -> Result<Answer<C::Stop>, AllocError>
     requires going { Going (lists_of state.old) added.now (C.stands checker.old) assumed.now }
+    requires recorded { Recorded state.old.clauses.items added.now (C.stands checker.old) assumed.now turns }
     requires known { (m : Lit) → In m assumed.now → m.var < length state.old.values.items }
     ensures stands { (c : List Lit) → C.stands checker.new c ↔ C.stands checker.old c }
     ensures justified { IfOk result (λ a. Justified (length state.old.values.items) added.now (C.stands checker.old) assumed.now turns (C.newest checker.new) a) }
 {
+    let mut left = u64::MAX;
+    state.relevance.begin(added.len());
     loop {
-        match run_round(alloc, state, added, assumed, turns, checker)? {
-            Round::Next => {}
+        let may = may_reduce(turns, left);
+        match stretch(alloc, state, added, assumed, turns, may, checker)? {
             Round::Done(answer) => return Ok(answer),
+            Round::Next => {}
         }
+        if !reduce(alloc, state, added, assumed, checker)? {
+            return Ok(Answer::Unsat(Lits::new(alloc)));
+        }
+        left -= 1;
     }
 }

@@ -1,8 +1,9 @@
-use Rattle.std.proofs.Common.{subst, sym, length}
+use Rattle.std.proofs.Common.{subst, sym, length, List}
 use Rattle.std.proofs.lemmas.Result.{IfOk-weaker}
+use Rattle.clause_logic.specs.declared.Lit.{Lit}
 use Rattle.clause_logic.specs.Clauses.{In, Follows, Both, Listed}
 use Rattle.clause_trail.specs.View.{lists_of}
-use Rattle.clause_search.specs.Solving.{weight}
+use Rattle.clause_search.specs.Solving.{Recorded, weight}
 use Rattle.clause_search.proofs.Rounding.{grown_going, grown_weight, clash_false, lawful, rounds_same}
 use Rattle.clause_search.proofs.solving.run_round.Goals as goal
 
@@ -11,6 +12,12 @@ learn_from-requires-clause-going g c = (grown_going (lists_of c.args.state.now) 
 
 pub ask-requires-clause-going : goal.ask-requires-clause-going
 ask-requires-clause-going g c = (grown_going (lists_of c.args.state.now) c.args.added.now (g.C.Checker.stands c.args.checker.now) c.args.assumed.now c.requires.going (lists_of c.propagate.new.self) c.propagate.ensures.sound c.propagate.ensures.grown)
+
+pub learn_from-requires-clause-recorded : goal.learn_from-requires-clause-recorded
+learn_from-requires-clause-recorded g c = subst (λ (cs : List (List Lit)). Recorded cs c.args.added.now (g.C.Checker.stands c.args.checker.now) c.args.assumed.now c.args.turns) (sym c.propagate.ensures.grown.clauses) c.requires.recorded
+
+pub ask-requires-clause-recorded : goal.ask-requires-clause-recorded
+ask-requires-clause-recorded g c = subst (λ (cs : List (List Lit)). Recorded cs c.args.added.now (g.C.Checker.stands c.args.checker.now) c.args.assumed.now c.args.turns) (sym c.propagate.ensures.grown.clauses) c.requires.recorded
 
 pub learn_from-requires-clause-false_there : goal.learn_from-requires-clause-false_there
 learn_from-requires-clause-false_there g c = λ m i.
