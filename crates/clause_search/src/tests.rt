@@ -1,6 +1,6 @@
 //! Tests of the search, and two checkers for them.
 
-ghost use Rattle.std.specs.Prelude.{◌≡◌, List, Option, Bool, Some, None};
+ghost use Rattle.std.specs.Prelude.{◌≡◌, List, Option, Bool, Some, None, IfOk, IfSome};
 ghost use Rattle.std.specs.Bool.{OnTrue};
 ghost use Rattle.clause_logic.specs.declared.Lit.{Lit};
 ghost use Rattle.clause_logic.specs.Clauses.{In};
@@ -224,6 +224,83 @@ impl Checker for OneClause {
         self.newest = made::<Noted>(shown, &answer);
         answer
     }
+}
+
+/// The clause that is false under these values alone, unless a variable has none.
+fn refusal(alloc: Global, shown: &[Option<bool>]) -> Result<Option<Vec<Lit>>, AllocError>
+    ensures { IfOk result (λ o. IfSome o (λ v. (l : Lit) → In l v.items → IsFalseIn shown.now l)) }
+{
+    let mut lits = Vec::new(alloc);
+    for var in 0..shown.len() {
+        match shown[var] {
+            None => return Ok(None),
+            Some(value) => lits.push(Lit {
+                var,
+                positive: !value,
+            })?,
+        }
+    }
+    Ok(Some(lits))
+}
+
+/// A checker that refuses each assignment in which all variables have values, and no other.
+#[derive(Drop)]
+struct NoneWhole {
+    alloc: Global,
+    newest: Erased<Option<(Assignment, Look<u8>)>>,
+}
+
+impl NoneWhole {
+    fn new(alloc: Global) -> NoneWhole
+        ensures { ⟦<NoneWhole as Checker>⟧.newest result ≡ None }
+    {
+        NoneWhole {
+            alloc,
+            newest: made::<Begun>(&(), &()),
+        }
+    }
+
+    fn answer(&self, shown: &Assignment) -> Look<u8>
+        ensures { Lawful (λ c. Unit {0}) shown.now result }
+    {
+        match refusal(self.alloc, shown.as_slice()) {
+            Ok(Some(lits)) => Look::Conflict(Clause::from_vec(lits)),
+            Ok(None) => Look::Fits,
+            Err(_refused) => Look::NoMemory,
+        }
+    }
+}
+
+impl Checker for NoneWhole {
+    type Stop = u8;
+
+    ghost stands = { λ s c. Unit {0} };
+
+    ghost newest = { λ s. s.newest.value };
+
+    fn begin(&mut self) {
+        self.newest = made::<Begun>(&(), &());
+    }
+
+    fn look(&mut self, shown: &Assignment) -> Look<u8> {
+        let answer = self.answer(shown);
+        self.newest = made::<Noted>(shown, &answer);
+        answer
+    }
+}
+
+#[test]
+fn a_checker_that_refuses_each_whole_assignment_leaves_none(
+    rt: HostRuntime,
+) -> Result<(), Fail> {
+    let mut search = search_over(rt.alloc(), 3)?;
+    add(&mut search, rt.alloc(), &[1, 2])?;
+    let mut checker = NoneWhole::new(rt.alloc());
+    match search.solve(&[], Turns::Whole, &mut checker) {
+        Answer::Unsat(core) => assert_eq!(rt; core.len(), 0),
+        _ => assert!(rt; false, "not unsat"),
+    }
+    Ok(())
 }
 
 #[test]
