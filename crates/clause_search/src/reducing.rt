@@ -42,9 +42,7 @@ fn rebuild(alloc: Global, state: &State, added: &[Clause]) -> Result<Loaded, All
 fn hand_over(from: &mut State, to: &mut State)
     ensures { lists_of to.new ≡ lists_of to.old }
 {
-    for lit in &from.order {
-        from.choice.release(lit.var, lit.positive);
-    }
+    from.choice.release_all(&from.order);
     from.relevance.thin();
     mem::swap(&mut to.choice, &mut from.choice);
     mem::swap(&mut to.relevance, &mut from.relevance);

@@ -162,27 +162,32 @@ impl Search {
 
     /// The answer of `solve`, or that memory was refused.
     fn answer<C: Checker>(
-        &self,
+        &mut self,
         assumed: &[Lit],
         turns: Turns,
         checker: &mut C,
     ) -> Result<Answer<C::Stop>, AllocError>
-        requires known { (l : Lit) → In l assumed.now → l.var < self.now.content.vars }
+        requires known { (l : Lit) → In l assumed.now → l.var < self.old.content.vars }
+        ensures unchanged { self.new ≡ self.old }
         ensures stands { (c : List Lit) → C.stands checker.new c ↔ C.stands checker.old c }
-        ensures justified { IfOk result (λ a. Justified self.now.content.vars self.now.content.clauses (C.stands checker.old) assumed.now turns (C.newest checker.new) a) }
+        ensures justified { IfOk result (λ a. Justified self.old.content.vars self.old.content.clauses (C.stands checker.old) assumed.now turns (C.newest checker.new) a) }
     {
         let vars = self.phases.len();
         match load(self.alloc, vars, &self.clauses)? {
             Loaded::Refuted => Ok(Answer::Unsat(Lits::new(self.alloc))),
             Loaded::Ready(mut state) => {
-                run(
+                state.choice.take_phases(&self.phases);
+                let answer = run(
                     self.alloc,
                     &mut state,
                     &self.clauses,
                     assumed,
                     turns,
                     checker,
-                )
+                )?;
+                state.choice.release_all(&state.order);
+                state.choice.give_phases(&mut self.phases);
+                Ok(answer)
             }
         }
     }

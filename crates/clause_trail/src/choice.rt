@@ -69,6 +69,31 @@ impl Choice {
         }
     }
 
+    /// Saves the values of the literals that are true, and makes their variables ready to be chosen.
+    pub fn release_all(&mut self, trail: &[Lit]) {
+        for lit in trail {
+            self.release(lit.var, lit.positive);
+        }
+    }
+
+    /// Takes values over that were saved before, by the numbers of their variables.
+    pub fn take_phases(&mut self, phases: &[bool]) {
+        for var in 0..phases.len() {
+            if var < self.phases.len() {
+                self.phases[var] = phases[var];
+            }
+        }
+    }
+
+    /// Hands the saved values over.
+    pub fn give_phases(&self, phases: &mut [bool]) {
+        for var in 0..phases.len() {
+            if var < self.phases.len() {
+                phases[var] = self.phases[var];
+            }
+        }
+    }
+
     /// The variable of the highest activity that has no value, with its saved value.
     pub fn next(&mut self, values: &[Option<bool>]) -> Option<Lit> {
         for tried in 0..self.size {

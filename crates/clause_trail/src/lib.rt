@@ -203,12 +203,9 @@ impl State {
         ensures yes { OnTrue result ((lit ≡ other) ⊎ False self.now.values.items lit) }
         ensures no { OnFalse result ((lit ≡ other → ⊥) × (False self.now.values.items lit → ⊥)) }
     {
-        if same(lit, other) {
-            return true;
-        }
         match self.values[lit.var] {
-            None => false,
-            Some(value) => value != lit.positive,
+            None => same(lit, other),
+            Some(value) => value != lit.positive || same(lit, other),
         }
     }
 

@@ -13,13 +13,13 @@ use Rattle.clause_search.proofs.search.Search.answer.Goals as goal
 pub run-requires-clause-going : goal.run-requires-clause-going
 run-requires-clause-going g c =
     let root : IsRoot (lists_of c.in-Ready.state) c.len-vars.result c.deref.result.now = subst (Loads c.len-vars.result c.deref.result.now) c.in-Ready.is c.in_ok-load.ensures in
-    subst (λ (cs : List (List Lit)). Going (lists_of c.in-Ready.state) cs (g.C.Checker.stands c.args.checker.now) c.args.assumed.now) (c.deref.ensures.value ∙ sym c.deref-in-Ready.ensures.value)
+    subst (λ (cs : List (List Lit)). Going (lists_of c.in-Ready.state) cs (g.C.Checker.stands c.args.checker.now) c.args.assumed.now) (c.deref.ensures.value ∙ sym c.deref-in-Ready-2.ensures.value)
     (root_going (lists_of c.in-Ready.state) c.len-vars.result c.deref.result.now (g.C.Checker.stands c.args.checker.now) c.args.assumed.now root)
 
 pub run-requires-clause-recorded : goal.run-requires-clause-recorded
 run-requires-clause-recorded g c =
     let root : IsRoot (lists_of c.in-Ready.state) c.len-vars.result c.deref.result.now = subst (Loads c.len-vars.result c.deref.result.now) c.in-Ready.is c.in_ok-load.ensures in
-    subst (λ (cs : List (List Lit)). Recorded c.in-Ready.state.clauses.items cs (g.C.Checker.stands c.args.checker.now) c.args.assumed.now c.args.turns) (c.deref.ensures.value ∙ sym c.deref-in-Ready.ensures.value)
+    subst (λ (cs : List (List Lit)). Recorded c.in-Ready.state.clauses.items cs (g.C.Checker.stands c.args.checker.now) c.args.assumed.now c.args.turns) (c.deref.ensures.value ∙ sym c.deref-in-Ready-2.ensures.value)
     (root_recorded (lists_of c.in-Ready.state) c.len-vars.result c.deref.result.now (g.C.Checker.stands c.args.checker.now) c.args.assumed.now c.args.turns root)
 
 pub run-requires-clause-known : goal.run-requires-clause-known
