@@ -1,5 +1,5 @@
 -- Contents put on one another and taken away.
-use Rattle.std.proofs.Common.{ℕ, zero, suc, ◌<◌, ◌≤◌, ◌+◌, ◌++◌, List, [], ◌∷◌, ◌≡◌, ◌∙◌, Some, inl, inr, ⊎_elim, refl, sym, ap, subst, length, arith, take, map, Bool}
+use Rattle.std.proofs.Common.{ℕ, zero, suc, ◌<◌, ◌≤◌, ◌++◌, List, [], ◌∷◌, ◌≡◌, ◌∙◌, Some, ⊎_elim, refl, sym, ap, subst, length, arith, take, map, Bool}
 use Rattle.std.specs.Prelude.{slice_get}
 use Rattle.std.proofs.lemmas.List.{take-append-le, length-take}
 use Rattle.std.proofs.lemmas.Option.{slice_get_within}

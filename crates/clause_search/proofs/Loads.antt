@@ -1,16 +1,15 @@
 -- A state made of the added clauses.
-use Rattle.std.proofs.Common.{ℕ, zero, suc, ◌<◌, ◌+◌, ◌++◌, Bool, List, [], ◌∷◌, ◌≡◌, ◌∙◌, Option, Some, None, inl, inr, ⊎_elim, refl, sym, ap, subst, length, arith, take, drop}
+use Rattle.std.proofs.Common.{ℕ, zero, suc, ◌+◌, ◌++◌, List, [], ◌∷◌, ◌≡◌, ◌∙◌, Some, None, inl, refl, sym, ap, subst, length, take, drop}
 use Rattle.std.specs.Prelude.{slice_get}
-use Rattle.std.proofs.lemmas.Option.{slice_get_within}
 use Rattle.clause_logic.specs.declared.Lit.{Lit}
-use Rattle.clause_logic.specs.Clauses.{In, Models, Listed, IsRecord}
+use Rattle.clause_logic.specs.Clauses.{In, Listed, IsRecord}
 use Rattle.clause_logic.specs.Trails.{IsCore, FalseBefore}
 use Rattle.clause_logic.proofs.Records.{record_none, derived_none}
 use Rattle.clause_logic.proofs.Gets.{push_here, push_old, length_push}
 use Rattle.clause_logic.proofs.Members.{get_from_in}
 use Rattle.clause_trail.specs.Words.{AllFalse}
 use Rattle.clause_trail.specs.View.{Lists, Sound}
-use Rattle.clause_trail.specs.Changes.{Chosen, SameBut}
+use Rattle.clause_trail.specs.Changes.{Chosen}
 use Rattle.clause_trail.specs.Analysis.{Rooted}
 use Rattle.clause_trail.proofs.Cores.{core_refutes}
 use Rattle.clause_trail.proofs.Settling.{rooted_of, false_on_trail}

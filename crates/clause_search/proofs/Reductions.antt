@@ -1,17 +1,17 @@
 -- Fewer learned clauses: what holds stays.
-use Rattle.std.proofs.Common.{ℕ, zero, suc, ◌<◌, ◌≤◌, ◌+◌, ◌-◌, ◌++◌, Bool, List, [], ◌∷◌, ◌≡◌, ◌∙◌, ◌⊎◌, Some, inl, inr, ⊎_elim, refl, sym, ap, subst, length, arith}
+use Rattle.std.proofs.Common.{ℕ, zero, suc, ◌≤◌, ◌+◌, ◌-◌, ◌++◌, List, [], ◌∷◌, ◌≡◌, ◌∙◌, Some, ⊎_elim, refl, sym, ap, subst, length, arith}
 use Rattle.std.specs.Prelude.{slice_get}
-use Rattle.std.proofs.lemmas.Option.{same_Some, slice_get_within}
+use Rattle.std.proofs.lemmas.Option.{slice_get_within}
 use Rattle.clause_logic.specs.declared.Lit.{Lit}
-use Rattle.clause_logic.specs.Clauses.{In, Models, Follows, Both, Listed, IsDerived}
-use Rattle.clause_logic.proofs.Gets.{push_cases, length_push}
+use Rattle.clause_logic.specs.Clauses.{In, Listed, IsDerived}
+use Rattle.clause_logic.proofs.Gets.{push_cases}
 use Rattle.clause_logic.proofs.Members.{get_from_in}
 use Rattle.clause_trail.specs.View.{Lists, Base, Sound}
 use Rattle.clause_search.specs.Answers.{IsUnsatCore}
 use Rattle.clause_search.specs.Content.{AllKnown}
 use Rattle.clause_search.specs.Loading.{IsRoot, Impossible}
 use Rattle.clause_search.specs.Solving.{Going, IsPart, IsRebuilt}
-use Rattle.clause_search.proofs.Loads.{root_chosen, impossible_core}
+use Rattle.clause_search.proofs.Loads.{root_chosen}
 use Rattle.clause_search.proofs.Rounding.{lawful, append_left, append_cases, append_assoc_one}
 
 -- the added clauses name variables of the state

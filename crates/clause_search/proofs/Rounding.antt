@@ -4,18 +4,18 @@ use Rattle.std.specs.Prelude.{slice_get, slice_set}
 use Rattle.std.proofs.lemmas.Option.{same_Some, slice_get_within}
 use Rattle.std.proofs.lemmas.Bool.{cases_lt, cases_eq}
 use Rattle.clause_logic.specs.declared.Lit.{Lit}
-use Rattle.clause_logic.specs.Clauses.{opposite, In, Models, Holds, Follows, Both, Listed, IsDerived, IsRecord}
-use Rattle.clause_logic.specs.Trails.{FalseBefore, Prefix, Learned, IsCore, MakesAll}
+use Rattle.clause_logic.specs.Clauses.{opposite, In, Follows, Both, Listed, IsDerived, IsRecord}
+use Rattle.clause_logic.specs.Trails.{FalseBefore, Prefix, IsCore}
 use Rattle.clause_logic.specs.Bound.{search_weight}
 use Rattle.clause_logic.proofs.Gets.{get_in, push_cases, length_push, length_set}
 use Rattle.clause_logic.proofs.Members.{get_from_in}
 use Rattle.clause_logic.proofs.Learning.{all_false}
 use Rattle.clause_logic.proofs.Turns.{turn_record, turn_derived, derived_short}
 use Rattle.clause_logic.proofs.Bound.{learning_falls, deciding_falls}
-use Rattle.clause_trail.specs.Words.{open_count, Open, AllFalse, Propagated, True}
-use Rattle.clause_trail.specs.View.{Lists, Base, Sound, assigned}
+use Rattle.clause_trail.specs.Words.{open_count, Open, Propagated}
+use Rattle.clause_trail.specs.View.{Lists, Sound, assigned}
 use Rattle.clause_trail.specs.Steps.{Grown, Clashes}
-use Rattle.clause_trail.specs.Changes.{Chosen, Derives, Refuting, Asserting, LastStart}
+use Rattle.clause_trail.specs.Changes.{Chosen, Derives, Refuting}
 use Rattle.clause_trail.proofs.Cores.{core_refutes}
 use Rattle.clause_trail.proofs.Completing.{complete_at, all_hold}
 use Rattle.clause_trail.proofs.Settling.{chosen_grown, chosen_decided, false_on_trail}
@@ -26,7 +26,7 @@ use Rattle.clause_search.specs.declared.Answer.TheVariants as answer
 use Rattle.clause_search.specs.declared.checker.Look.{Look}
 use Rattle.clause_search.specs.declared.solving.Round.{Round}
 use Rattle.clause_search.specs.declared.solving.Round.TheVariants as round
-use Rattle.clause_search.specs.Answers.{IsSolution, IsUnsatCore, IsOverLimit, Justified, IsTrueIn}
+use Rattle.clause_search.specs.Answers.{IsSolution, IsUnsatCore, IsOverLimit}
 use Rattle.clause_search.specs.Solving.{Going, Recorded, Rounds, Stretches, weight}
 use Rattle.clause_search.proofs.Takes.{drop_front}
 

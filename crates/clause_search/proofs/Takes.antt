@@ -1,5 +1,5 @@
 -- The end of a list, copied element by element.
-use Rattle.std.proofs.Common.{ℕ, zero, suc, ◌<◌, ◌≤◌, ◌+◌, ◌-◌, ◌++◌, List, [], ◌∷◌, ◌≡◌, ◌∙◌, Some, None, refl, sym, ap, length, arith, take, drop}
+use Rattle.std.proofs.Common.{ℕ, zero, suc, ◌≤◌, ◌+◌, ◌-◌, ◌++◌, List, [], ◌∷◌, ◌≡◌, ◌∙◌, Some, refl, sym, ap, length, arith, take, drop}
 use Rattle.std.specs.Prelude.{slice_get}
 
 module _ {X : Type 0} where

@@ -1,5 +1,5 @@
 -- What an answer of the search means.
-use Rattle.std.specs.Prelude.{ℕ, ◌+◌, ◌<◌, ◌^◌, Bool, not, List, Option, Some, None, ◌≡◌, slice_get, length}
+use Rattle.std.specs.Prelude.{ℕ, ◌+◌, ◌<◌, ◌^◌, Bool, not, List, Option, Some, ◌≡◌, slice_get, length}
 use Rattle.clause_logic.specs.declared.Lit.{Lit}
 use Rattle.clause_logic.specs.Clauses.{In, Models, Follows, Both, Listed, IsRecord}
 use Rattle.clause_logic.specs.Trails.{MakesAll, EachOnce}

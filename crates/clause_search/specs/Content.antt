@@ -1,5 +1,5 @@
 -- What callers see of a search.
-use Rattle.std.specs.Prelude.{ℕ, ◌<◌, ◌≤◌, List, ◌≡◌, Some, slice_get, length, map, take}
+use Rattle.std.specs.Prelude.{ℕ, ◌<◌, List, ◌≡◌, Some, slice_get}
 use Rattle.clause_logic.specs.declared.Lit.{Lit}
 use Rattle.clause_logic.specs.Clauses.{In}
 

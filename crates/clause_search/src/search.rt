@@ -140,8 +140,8 @@ impl Search {
     }
 
     /// Looks for values that make all clauses and assumptions true, and that the checker accepts.
-    /// The number of learned clauses is at most 3 to the number of variables; the time of each is
-    /// bounded by the size of the clauses.
+    /// At most 3 to the number of variables learned clauses are kept at a time, and under a limit
+    /// each one is; the time of each is bounded by the size of the clauses.
     pub fn solve<C: Checker>(
         &mut self,
         assumed: &[Lit],

@@ -290,9 +290,7 @@ impl Checker for NoneWhole {
 }
 
 #[test]
-fn a_checker_that_refuses_each_whole_assignment_leaves_none(
-    rt: HostRuntime,
-) -> Result<(), Fail> {
+fn a_checker_that_refuses_each_whole_assignment_leaves_none(rt: HostRuntime) -> Result<(), Fail> {
     let mut search = search_over(rt.alloc(), 3)?;
     add(&mut search, rt.alloc(), &[1, 2])?;
     let mut checker = NoneWhole::new(rt.alloc());

@@ -1,14 +1,13 @@
 -- The newest of literals that are false.
-use Rattle.std.proofs.Common.{ℕ, ◌<◌, ◌≤◌, ◌+◌, ◌++◌, List, [], ◌∷◌, ◌≡◌, ◌⊎◌, ◌∙◌, inl, inr, ⊎_elim, refl, sym, ap, Some, length, arith}
+use Rattle.std.proofs.Common.{ℕ, ◌<◌, ◌≤◌, ◌+◌, ◌++◌, List, [], ◌∷◌, ◌≡◌, ◌∙◌, inl, inr, ⊎_elim, refl, sym, ap, Some, arith}
 use Rattle.std.specs.Prelude.{slice_get, slice_index_or}
 use Rattle.clause_trail.proofs.Counts.{read_there}
 use Rattle.std.proofs.lemmas.Option.{same_Some, slice_get_within}
 use Rattle.std.proofs.lemmas.Bool.{cases_eq}
 use Rattle.clause_logic.specs.declared.Lit.{Lit}
-use Rattle.clause_logic.specs.Clauses.{opposite, In}
+use Rattle.clause_logic.specs.Clauses.{opposite}
 use Rattle.clause_logic.specs.Trails.{IsPlaced, FalseBefore}
 use Rattle.clause_trail.specs.Levels.{IsTop}
-use Rattle.clause_logic.proofs.Gets.{get_in}
 use Rattle.clause_logic.proofs.Members.{in_push, in_last, in_push_cases}
 
 pub top_none : (order : List Lit) (start : ℕ) → IsTop order start [] 0

@@ -3,14 +3,13 @@ use Rattle.std.proofs.Common.{ℕ, ◌<◌, ◌≤◌, ◌+◌, ◌-◌, ◌++�
 use Rattle.std.specs.Prelude.{slice_get}
 use Rattle.std.proofs.lemmas.Option.{same_Some, slice_get_within, get_or_from_slice_get}
 use Rattle.std.proofs.lemmas.List.{take_at}
-use Rattle.std.proofs.lemmas.Bool.{cases_lt, cases_eq}
+use Rattle.std.proofs.lemmas.Bool.{cases_lt}
 use Rattle.clause_logic.specs.declared.Lit.{Lit}
 use Rattle.clause_logic.specs.Clauses.{opposite, In}
 use Rattle.clause_logic.specs.Trails.{FalseBefore}
-use Rattle.clause_trail.specs.declared.Pair.{Pair}
-use Rattle.clause_trail.specs.Words.{Before, Has, False, Open, AllFalseBut}
-use Rattle.clause_trail.specs.View.{Lists, Base, Sound}
-use Rattle.clause_trail.specs.Changes.{Backed, Asserts, Asserting, LastStart}
+use Rattle.clause_trail.specs.Words.{Has, False, Open}
+use Rattle.clause_trail.specs.View.{Lists, Sound}
+use Rattle.clause_trail.specs.Changes.{Backed, Asserts, LastStart}
 use Rattle.clause_trail.specs.Levels.{IsTop}
 use Rattle.clause_logic.proofs.Gets.{get_in, push_here, length_push}
 use Rattle.clause_logic.proofs.Lits.{opposite_same}

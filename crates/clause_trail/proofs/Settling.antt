@@ -1,19 +1,17 @@
 -- What a conflict comes to, and the choice of decisions step by step.
-use Rattle.std.proofs.Common.{ℕ, ◌<◌, ◌≤◌, ◌+◌, ◌++◌, List, [], ◌∷◌, ◌≡◌, ◌∙◌, ◌⊎◌, Option, Some, None, inl, inr, ⊎_elim, refl, sym, ap, subst, length, arith, get_or, min, not}
-use Rattle.std.specs.Prelude.{slice_get, slice_set}
+use Rattle.std.proofs.Common.{ℕ, ◌<◌, ◌≤◌, ◌+◌, ◌++◌, List, [], ◌∷◌, ◌≡◌, ◌∙◌, ◌⊎◌, Option, Some, None, inl, inr, ⊎_elim, sym, ap, subst, length, arith, get_or, min, not}
+use Rattle.std.specs.Prelude.{slice_get}
 use Rattle.std.proofs.lemmas.Option.{same_Some, slice_get_within, slice_get-get_or}
 use Rattle.std.proofs.lemmas.Bool.{cases_lt}
 use Rattle.clause_logic.specs.declared.Lit.{Lit}
-use Rattle.clause_logic.specs.Clauses.{opposite, In, Quiet, Complete, Listed}
-use Rattle.clause_logic.specs.Trails.{IsPlaced, FalseBefore, Prefix, IsCore}
-use Rattle.clause_trail.specs.declared.Pair.{Pair}
-use Rattle.clause_trail.specs.Words.{Before, Has, True, False, AllFalse}
-use Rattle.clause_trail.specs.View.{Lists, Base, Sound, Held, NoNewDecision, assigned}
-use Rattle.clause_trail.specs.Steps.{Grown}
+use Rattle.clause_logic.specs.Clauses.{opposite, In, Listed}
+use Rattle.clause_logic.specs.Trails.{FalseBefore, Prefix, IsCore}
+use Rattle.clause_trail.specs.Words.{True, False}
+use Rattle.clause_trail.specs.View.{Lists, Base, Sound, NoNewDecision, assigned}
 use Rattle.clause_trail.specs.Changes.{Shrunk, Backed, Asserted, Chosen, LastStart, NoneAfter, Refuting}
 use Rattle.clause_trail.specs.Analysis.{HasReason, Ready, Rooted}
 use Rattle.clause_trail.specs.Levels.{IsTop}
-use Rattle.clause_logic.proofs.Gets.{get_in, push_old, push_here, push_cases, set_here, set_other}
+use Rattle.clause_logic.proofs.Gets.{get_in, push_old, push_cases, set_other}
 use Rattle.clause_logic.proofs.Lits.{lit_cases}
 use Rattle.clause_logic.proofs.Members.{get_from_in, in_push_cases}
 use Rattle.clause_trail.proofs.Cores.{core_assumption, core_assumption_once, core_without}

@@ -1,5 +1,5 @@
 -- Why a clause made shorter still follows.
-use Rattle.std.proofs.Common.{ℕ, zero, suc, ◌<◌, ◌≤◌, ◌+◌, ◌++◌, Bool, true, false, List, [], ◌∷◌, ◌≡◌, ◌∙◌, ◌⊎◌, inl, inr, ⊎_elim, refl, sym, ap, subst, Some, length, arith, replicate, not, take}
+use Rattle.std.proofs.Common.{ℕ, zero, suc, ◌<◌, ◌≤◌, ◌++◌, Bool, true, false, List, [], ◌∷◌, ◌≡◌, ◌∙◌, ◌⊎◌, inl, inr, ⊎_elim, refl, sym, ap, subst, Some, length, arith, replicate, not, take}
 use Rattle.std.specs.Prelude.{slice_get, slice_set, slice_index_or}
 use Rattle.std.specs.Bool.{OnTrue}
 use Rattle.std.proofs.lemmas.List.{length-replicate}
@@ -11,7 +11,7 @@ use Rattle.clause_logic.proofs.Gets.{length_set, set_cases}
 use Rattle.clause_logic.proofs.Lits.{opposite_twice, lit_cases}
 use Rattle.clause_logic.proofs.Members.{in_push, in_last, in_push_cases, get_from_in}
 use Rattle.clause_trail.specs.View.{Lists, Sound, Implied}
-use Rattle.clause_trail.specs.Shortening.{MarksFalse, IsEarlier, IsRedundant, Shortens}
+use Rattle.clause_trail.specs.Shortening.{MarksFalse, IsRedundant, Shortens}
 use Rattle.clause_trail.proofs.Counts.{fresh_false, read_there}
 use Rattle.clause_trail.proofs.Resolving.{makes_both, holds_cases}
 

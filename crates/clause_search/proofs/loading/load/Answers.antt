@@ -1,4 +1,4 @@
-use Rattle.std.proofs.Common.{Some, ◌≡◌, ◌∙◌, ap, sym, subst, length, arith}
+use Rattle.std.proofs.Common.{Some, ◌≡◌, ◌∙◌, ap, sym, subst, arith}
 use Rattle.std.specs.Prelude.{slice_get}
 use Rattle.clause_logic.specs.Clauses.{In}
 use Rattle.clause_logic.proofs.Members.{in_from_get}

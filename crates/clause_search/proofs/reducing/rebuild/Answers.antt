@@ -1,14 +1,10 @@
-use Rattle.std.proofs.Common.{ℕ, ◌≡◌, ◌∙◌, ◌≤◌, ◌++◌, ◌∷◌, [], List, Some, ap, subst, sym, length, arith}
-use Rattle.std.specs.Prelude.{slice_get}
+use Rattle.std.proofs.Common.{ℕ, ◌≡◌, ◌∙◌, ◌≤◌, ◌++◌, ◌∷◌, [], List, ap, subst, length, arith}
 use Rattle.clause_logic.specs.declared.Lit.{Lit}
-use Rattle.clause_logic.specs.Clauses.{In}
-use Rattle.clause_logic.proofs.Members.{in_from_get}
 use Rattle.clause_trail.specs.View.{lists_of}
 use Rattle.clause_trail.specs.Changes.{Adds}
 use Rattle.clause_trail.specs.declared.Added.TheVariants as added
 use Rattle.clause_search.specs.Loading.{IsRoot, Impossible, Loads}
 use Rattle.clause_search.specs.Solving.{IsRebuilt}
-use Rattle.clause_search.specs.declared.loading.Loaded.TheVariants as loaded
 use Rattle.clause_search.proofs.Reductions.{front_known, impossible_front, rebuilt_none, rebuilt_skip, rebuilt_more, rebuilt_impossible}
 use Rattle.clause_search.proofs.Rounding.{append_length}
 use Rattle.clause_search.proofs.reducing.rebuild.Goals as goal

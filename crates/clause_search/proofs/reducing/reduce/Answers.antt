@@ -1,8 +1,6 @@
-use Rattle.std.proofs.Common.{◌≡◌, ◌∙◌, ap, subst, sym, length, arith}
+use Rattle.std.proofs.Common.{subst, sym, length}
 use Rattle.clause_trail.specs.View.{lists_of, Lists}
-use Rattle.clause_search.specs.Loading.{Impossible}
-use Rattle.clause_search.specs.Solving.{Going, Rebuilds, IsRebuilt}
-use Rattle.clause_search.specs.declared.loading.Loaded.TheVariants as loaded
+use Rattle.clause_search.specs.Solving.{Rebuilds, IsRebuilt}
 use Rattle.clause_search.proofs.Reductions.{rebuilt_going, refuted_core}
 use Rattle.clause_search.proofs.reducing.reduce.Goals as goal
 

@@ -1,10 +1,10 @@
-use Rattle.std.proofs.Common.{ℕ, List, ◌<◌, ◌≤◌, subst, sym, ap, length, arith}
+use Rattle.std.proofs.Common.{◌<◌, subst, sym, ap, length}
 use Rattle.std.proofs.lemmas.Result.{IfOk-weaker}
 use Rattle.clause_logic.specs.declared.Lit.{Lit}
 use Rattle.clause_logic.specs.Clauses.{In, Follows, Both, Listed}
 use Rattle.clause_logic.specs.Trails.{FalseBefore}
 use Rattle.clause_trail.specs.View.{lists_of, Lists}
-use Rattle.clause_search.specs.Solving.{Going, Recorded, Rounds, weight}
+use Rattle.clause_search.specs.Solving.{Going, Recorded, weight}
 use Rattle.clause_search.proofs.Rounding.{going_same, recorded_same, follows_stands, look_false, rounds_same, weight_same}
 use Rattle.clause_search.proofs.solving.ask.Goals as goal
 

@@ -1,10 +1,6 @@
-use Rattle.std.proofs.Common.{ℕ, ◌-◌, subst, ◌∙◌, sym, ap, length, ◌++◌, ◌∷◌, [], drop, List}
-use Rattle.clause_logic.specs.declared.Lit.{Lit}
+use Rattle.std.proofs.Common.{ℕ, ◌-◌, subst, ◌∙◌, ap, length}
 use Rattle.clause_trail.specs.View.{lists_of}
 use Rattle.clause_trail.specs.Changes.{Settles, Derives}
-use Rattle.clause_trail.specs.declared.conflicts.Settled.TheVariants as settled
-use Rattle.clause_logic.specs.Trails.{IsCore}
-use Rattle.clause_logic.specs.Clauses.{Listed}
 use Rattle.clause_search.proofs.Rounding.{core_round, over_round, turn_going, turn_falls, turn_recorded}
 use Rattle.clause_search.proofs.solving.learn_from.Goals as goal
 

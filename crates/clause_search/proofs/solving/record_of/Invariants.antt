@@ -1,4 +1,4 @@
-use Rattle.std.proofs.Common.{◌≡◌, ◌-◌, ◌≤◌, take, drop}
+use Rattle.std.proofs.Common.{◌≡◌, ◌-◌, take, drop}
 use Rattle.clause_search.proofs.solving.record_of.Given as goal
 
 abbrev pub invariant-loop-c : goal.invariant-loop-c

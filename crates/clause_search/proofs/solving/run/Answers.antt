@@ -1,8 +1,6 @@
-use Rattle.std.proofs.Common.{List, subst, sym, length, arith, ◌≡◌, ◌∙◌, ◌<◌, ◌↔◌, Bool, true, false, [], ℕ}
+use Rattle.std.proofs.Common.{subst, sym, length, ◌∙◌, true, false}
 use Rattle.std.proofs.lemmas.Bool.{OnTrue_at}
-use Rattle.clause_logic.specs.declared.Lit.{Lit}
 use Rattle.clause_trail.specs.View.{lists_of}
-use Rattle.clause_search.specs.declared.Turns.TheVariants as turns
 use Rattle.clause_search.specs.Solving.{Stretches, Reduces}
 use Rattle.clause_search.specs.declared.solving.Round.TheVariants as round
 use Rattle.clause_search.proofs.Rounding.{going_same, recorded_same, core_same, stretches_same}

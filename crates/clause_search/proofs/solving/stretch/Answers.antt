@@ -1,5 +1,4 @@
-use Rattle.std.proofs.Common.{List, subst, sym, length, arith, ◌≡◌}
-use Rattle.clause_logic.specs.declared.Lit.{Lit}
+use Rattle.std.proofs.Common.{subst, length, arith}
 use Rattle.clause_trail.specs.View.{lists_of}
 use Rattle.clause_search.specs.Solving.{Rounds, weight}
 use Rattle.clause_search.specs.declared.solving.Round.TheVariants as round

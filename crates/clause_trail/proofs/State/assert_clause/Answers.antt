@@ -1,12 +1,10 @@
-use Rattle.std.proofs.Common.{arith, ◌≡◌, ◌<◌, ◌≤◌, ◌-◌, ◌∙◌, ap, length, subst, sym, List, take, get_or, false}
+use Rattle.std.proofs.Common.{arith, ◌≡◌, ◌-◌, ◌∙◌, ap, subst, List, take, get_or, false}
 use Rattle.std.proofs.lemmas.Option.{slice_get_within}
 use Rattle.clause_logic.specs.declared.Lit.{Lit}
 use Rattle.clause_logic.specs.Clauses.{In, opposite}
-use Rattle.clause_logic.specs.Trails.{FalseBefore}
 use Rattle.clause_trail.specs.View.{lists_of}
 use Rattle.clause_trail.specs.Levels.{IsTop}
-use Rattle.clause_trail.specs.Changes.{Asserts}
-use Rattle.clause_trail.proofs.Keeping.{lower_is, last_is, some_length, keep_asserts}
+use Rattle.clause_trail.proofs.Keeping.{lower_is, last_is, keep_asserts}
 use Rattle.clause_trail.proofs.Settling.{chosen_shrunk, chosen_asserted, false_later}
 use Rattle.clause_trail.proofs.State.assert_clause.Goals as goal
 

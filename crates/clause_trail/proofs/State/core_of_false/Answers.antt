@@ -1,6 +1,4 @@
 use Rattle.std.proofs.Common.{subst, sym, ◌∙◌}
-use Rattle.clause_logic.specs.Trails.{IsCore}
-use Rattle.clause_logic.specs.Clauses.{Listed}
 use Rattle.clause_trail.specs.View.{lists_of}
 use Rattle.clause_trail.specs.Changes.{Refuting}
 use Rattle.clause_trail.proofs.Settling.{rooted_of, none_false, false_one, refuting_of}

@@ -1,10 +1,9 @@
-use Rattle.std.proofs.Common.{◌≡◌, ◌∙◌, ◌-◌, ap, subst, sym, inl, List, take, get_or, false, length, arith}
+use Rattle.std.proofs.Common.{◌≡◌, ◌∙◌, ◌-◌, ap, subst, sym, inl, List, take, get_or, false}
 use Rattle.clause_logic.specs.declared.Lit.{Lit}
 use Rattle.clause_logic.specs.Clauses.{In, Both, Listed}
-use Rattle.clause_logic.specs.Trails.{FalseBefore, Learned}
+use Rattle.clause_logic.specs.Trails.{Learned}
 use Rattle.clause_trail.specs.View.{lists_of}
-use Rattle.clause_trail.specs.Shortening.{Shortens}
-use Rattle.clause_trail.proofs.Keeping.{lower_is, last_is, some_length}
+use Rattle.clause_trail.proofs.Keeping.{lower_is, last_is}
 use Rattle.clause_trail.proofs.Settling.{ready_at, false_later}
 use Rattle.clause_trail.proofs.Shorter.{shortens_more, shorter_learned}
 use Rattle.clause_trail.proofs.State.derive.Goals as goal

@@ -1,4 +1,3 @@
-use Rattle.std.proofs.Common.{◌∙◌}
 use Rattle.clause_trail.specs.View.{lists_of}
 use Rattle.clause_trail.proofs.Settling.{chosen_shrunk}
 use Rattle.clause_trail.proofs.State.keep.Goals as goal

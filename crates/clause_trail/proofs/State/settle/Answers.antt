@@ -1,6 +1,4 @@
-use Rattle.std.proofs.Common.{◌≡◌, ◌≤◌, length, subst, sym}
-use Rattle.clause_logic.specs.Clauses.{Both, Listed}
-use Rattle.clause_logic.specs.Trails.{Learned}
+use Rattle.std.proofs.Common.{◌≤◌, length}
 use Rattle.clause_trail.specs.View.{lists_of}
 use Rattle.clause_trail.proofs.Settling.{left_long, left_false, rooted_of, chosen_shrunk, settled_high}
 use Rattle.clause_trail.proofs.State.settle.Goals as goal

@@ -1,4 +1,4 @@
-use Rattle.std.proofs.Common.{arith, false, length, get_or, take, ap, sym, ◌∙◌, ◌≡◌, inl, inr, ⊎_elim, subst, ◌⊎◌, ℕ, true, Some}
+use Rattle.std.proofs.Common.{arith, false, get_or, take, ap, sym, ◌∙◌, ◌≡◌, inl, inr, ⊎_elim, subst, ◌⊎◌, ℕ, true, Some}
 use Rattle.std.proofs.lemmas.List.{take_more}
 use Rattle.std.proofs.lemmas.Option.{slice_get_within, slice_get-get_or}
 use Rattle.std.specs.Prelude.{slice_get}

@@ -1,4 +1,4 @@
-use Rattle.std.proofs.Common.{arith, length, ap, sym, ◌∙◌, ◌≡◌, ◌<◌, ℕ, Option, Some, Bool, true, subst}
+use Rattle.std.proofs.Common.{arith, ◌≡◌, ℕ, Option, Some, subst}
 use Rattle.std.specs.Prelude.{slice_index_or}
 use Rattle.std.proofs.lemmas.Option.{slice_get_within}
 use Rattle.clause_trail.specs.View.{lists_of}

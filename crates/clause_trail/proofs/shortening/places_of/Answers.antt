@@ -1,11 +1,11 @@
-use Rattle.std.proofs.Common.{arith, false, length, get_or, take, ap, ◌∙◌, refl}
+use Rattle.std.proofs.Common.{arith, false, length, get_or, take, refl}
 use Rattle.std.proofs.lemmas.List.{take_more}
 use Rattle.std.proofs.lemmas.Option.{slice_get_within}
 use Rattle.clause_logic.specs.declared.Lit.{Lit}
 use Rattle.clause_logic.specs.Clauses.{opposite}
 use Rattle.clause_logic.proofs.Members.{in_at}
 use Rattle.clause_trail.proofs.Backs.{place_of}
-use Rattle.clause_trail.proofs.Shorter.{marks_none, marks_more}
+use Rattle.clause_trail.proofs.Shorter.{marks_more}
 use Rattle.clause_trail.proofs.shortening.places_of.Goals as goal
 
 abbrev none : Lit

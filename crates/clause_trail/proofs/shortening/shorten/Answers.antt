@@ -1,9 +1,8 @@
-use Rattle.std.proofs.Common.{arith, false, length, get_or, take, ap, sym, ◌∙◌, ◌≡◌, inl, inr, ⊎_elim, subst}
+use Rattle.std.proofs.Common.{false, get_or, take}
 use Rattle.std.proofs.lemmas.List.{take_more}
 use Rattle.clause_logic.specs.declared.Lit.{Lit}
 use Rattle.clause_logic.specs.Clauses.{Listed}
 use Rattle.clause_logic.proofs.Members.{in_at}
-use Rattle.clause_trail.specs.Shortening.{IsRedundant}
 use Rattle.clause_trail.proofs.Shorter.{kept_more, kept_among, left_more}
 use Rattle.clause_trail.proofs.shortening.shorten.Goals as goal
 use Rattle.clause_trail.proofs.shortening.shorten.Goals.{then-not-is_redundant+in_ok-push, else-not-is_redundant}
@@ -21,13 +20,13 @@ loop-lit-preserved c =
     let so = c.loop-lit.invariant in
     elim c.if-not-is_redundant.branch [
       | then-not-is_redundant+in_ok-push w ↦ rw w.kept-is (record {
-          among = kept_among (Listed c.args.state.now.clauses.items) c.args.state.now.order.items c.args.lits.now seen c.loop-lit.kept.items x so.among so.each w.push.new.self.items w.in_ok-push.ensures.items (in_at c.args.lits.now c.loop-lit.lit-index none c.loop-lit-test.true);
-          each = λ m i. kept_more (Listed c.args.state.now.clauses.items) c.args.state.now.order.items c.args.lits.now seen c.loop-lit.kept.items x so.among so.each w.push.new.self.items w.in_ok-push.ensures.items m
-              (rw (take_more c.args.lits.now c.loop-lit.lit-index none c.loop-lit-test.true) at i);
-        })
+        among = kept_among (Listed c.args.state.now.clauses.items) c.args.state.now.order.items c.args.lits.now seen c.loop-lit.kept.items x so.among so.each w.push.new.self.items w.in_ok-push.ensures.items (in_at c.args.lits.now c.loop-lit.lit-index none c.loop-lit-test.true);
+        each = λ m i. kept_more (Listed c.args.state.now.clauses.items) c.args.state.now.order.items c.args.lits.now seen c.loop-lit.kept.items x so.among so.each w.push.new.self.items w.in_ok-push.ensures.items m
+            (rw (take_more c.args.lits.now c.loop-lit.lit-index none c.loop-lit-test.true) at i);
+      })
       | else-not-is_redundant w ↦ rw w.kept-is (record {
-          among = so.among;
-          each = λ m i. left_more (Listed c.args.state.now.clauses.items) c.args.state.now.order.items c.args.lits.now seen c.loop-lit.kept.items x so.among so.each w.if-not-is_redundant.ensures m
-              (rw (take_more c.args.lits.now c.loop-lit.lit-index none c.loop-lit-test.true) at i);
-        })
+        among = so.among;
+        each = λ m i. left_more (Listed c.args.state.now.clauses.items) c.args.state.now.order.items c.args.lits.now seen c.loop-lit.kept.items x so.among so.each w.if-not-is_redundant.ensures m
+            (rw (take_more c.args.lits.now c.loop-lit.lit-index none c.loop-lit-test.true) at i);
+      })
     ]

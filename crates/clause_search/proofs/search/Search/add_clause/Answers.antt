@@ -1,4 +1,4 @@
-use Rattle.std.proofs.Common.{length, subst, sym, ◌∙◌, ap, ◌++◌, ◌∷◌, [], ◌<◌, ℕ, List}
+use Rattle.std.proofs.Common.{length, subst, sym, ◌∙◌, ap, ◌++◌, ◌∷◌, [], ◌<◌, List}
 use Rattle.clause_logic.specs.declared.Lit.{Lit}
 use Rattle.clause_logic.specs.Clauses.{In}
 use Rattle.clause_search.specs.Content.{Stacked}

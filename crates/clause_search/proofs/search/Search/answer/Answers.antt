@@ -1,12 +1,10 @@
-use Rattle.std.proofs.Common.{ℕ, List, ◌<◌, ◌≡◌, ◌∙◌, ap, sym, subst, length, arith}
+use Rattle.std.proofs.Common.{List, ◌∙◌, ap, sym, subst, arith}
 use Rattle.clause_logic.specs.declared.Lit.{Lit}
-use Rattle.clause_logic.specs.Clauses.{In}
 use Rattle.clause_trail.specs.View.{lists_of}
 use Rattle.clause_search.specs.Content.{Stacked}
 use Rattle.clause_search.specs.Loading.{IsRoot, Impossible, Loads}
 use Rattle.clause_search.specs.Answers.{IsUnsatCore}
 use Rattle.clause_search.specs.Solving.{Going, Recorded}
-use Rattle.clause_search.specs.declared.loading.Loaded.TheVariants as loaded
 use Rattle.clause_search.proofs.Loads.{root_going, root_recorded, impossible_core}
 use Rattle.clause_search.proofs.search.Search.answer.Goals as goal
 

@@ -1,4 +1,4 @@
-use Rattle.std.proofs.Common.{ℕ, ◌<◌, ◌≡◌, ◌∙◌, ap, subst}
+use Rattle.std.proofs.Common.{ℕ, ◌<◌, ◌∙◌, ap, subst}
 use Rattle.std.specs.Bool.{OnTrue, OnFalse}
 use Rattle.clause_logic.specs.declared.Lit.{Lit}
 use Rattle.clause_logic.specs.Clauses.{In}
