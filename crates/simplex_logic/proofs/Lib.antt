@@ -1,0 +1,13 @@
+pub mod Dense
+pub mod Table
+pub mod Pivot
+pub mod Grow
+pub mod Bland
+pub mod Ends
+pub mod Witness
+pub mod Step
+pub mod Quantity
+pub mod Operands
+pub mod Going
+pub mod Certificate
+pub mod Concrete
