@@ -1,0 +1,54 @@
+-- What is done to all rows of a table.
+use Rattle.std.specs.Prelude.{◌≡◌, ℕ, zero, suc, ◌<◌, ◌++◌, List, [], ◌∷◌, length, map, Some, slice_get, slice_index}
+use Rattle.rationals.specs.Rational.{ℚ, zero_ℚ}
+use Rattle.fraction128.specs.declared.errors.Wide.{Wide}
+use Rattle.simplex_logic.specs.Forms.{Rows}
+use Rattle.simplex_logic.specs.Vectors.{replaced, flip}
+use Rattle.simplex_logic.specs.Tables.{Tabled, is_column}
+use Rattle.simplex_table.specs.View.{row_at}
+use Rattle.simplex_table.specs.Causes.{WideAlong, Replacing}
+
+-- the rows with the variable of column j replaced by the row p
+abbrev pub all_replaced : ℕ → List ℚ → List (List ℚ) → List (List ℚ)
+all_replaced j p bs = map (replaced j p) bs
+
+-- the first k rows with a 0 at the end
+abbrev pub grown : ℕ → List (List ℚ) → List (List ℚ)
+grown zero bs = bs
+grown (suc k) [] = []
+grown (suc k) (b ∷ bs) = (b ++ zero_ℚ ∷ []) ∷ grown k bs
+
+-- the first k rows with the columns c and c + 1 exchanged
+abbrev pub flipped : ℕ → ℕ → List (List ℚ) → List (List ℚ)
+flipped zero c bs = bs
+flipped (suc k) c [] = []
+flipped (suc k) c (b ∷ bs) = flip c b ∷ flipped k c bs
+
+-- the rows have n columns
+abbrev pub HaveLength : ℕ → List (List ℚ) → Type 0
+HaveLength n bs = (i : ℕ) (b : List ℚ) → slice_get bs i ≡ Some b → length b ≡ n
+
+-- too wide in one of the rows
+pub record WideInRow (j : ℕ) (p : List ℚ) (bs : List (List ℚ)) (w : Wide) : Type 0 where
+  pub row : ℕ
+  pub entries : List ℚ
+  pub is : slice_get bs row ≡ Some entries
+  pub along : WideAlong (length p) (Replacing j p entries) w
+
+-- the same columns in another order, with each variable's coefficients in it
+pub record Reordered (cols : List ℕ) (bs : List (List ℚ)) (cols' : List ℕ) (bs' : List (List ℚ)) : Type 0 where
+  pub tabled : (rows : Rows) → Tabled rows (length bs) cols (row_at bs) → Tabled rows (length bs) cols' (row_at bs')
+  pub members : (x : ℕ) → is_column cols' x ≡ is_column cols x
+  pub columns : length cols' ≡ length cols
+  pub rows : length bs' ≡ length bs
+
+-- the columns rise but for the one in place k, which is none of the others
+pub record RisesBut (k : ℕ) (cols : List ℕ) : Type 0 where
+  pub inside : k < length cols
+  pub others : (i l : ℕ) → i < l → l < length cols → (i ≡ k → ⊥) → (l ≡ k → ⊥) → slice_index cols i < slice_index cols l
+  pub apart : (i : ℕ) → i < length cols → (i ≡ k → ⊥) → slice_index cols i ≡ slice_index cols k → ⊥
+
+-- the one in place k is below those behind it
+pub record RisesFrom (k : ℕ) (cols : List ℕ) : Type 0 where
+  pub but : RisesBut k cols
+  pub above : (l : ℕ) → k < l → l < length cols → slice_index cols k < slice_index cols l

@@ -1,0 +1,5 @@
+pub mod Causes
+pub mod View
+pub mod Inside
+pub mod Values
+pub mod Columns
