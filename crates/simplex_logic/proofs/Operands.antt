@@ -34,7 +34,7 @@ pub summed-more : (tab : ℕ → List ℚ) (acc : List ℚ) (f : Form) (t : Term
 summed-more tab acc [] t = refl
 summed-more tab acc (u ∷ f) t = summed-more tab (add_rows acc (scale_row u.by (tab u.of))) f t
 
-at_add : (xs ys : List ℚ) (k : ℕ) → length xs ≡ length ys → k < length xs → at (add_rows xs ys) k ≡ at xs k +ℚ at ys k
+pub at_add : (xs ys : List ℚ) (k : ℕ) → length xs ≡ length ys → k < length xs → at (add_rows xs ys) k ≡ at xs k +ℚ at ys k
 at_add [] ys k h l = absurd (omega arith)
 at_add (x ∷ xs) [] k h l = absurd (omega arith)
 at_add (x ∷ xs) (y ∷ ys) zero h l = refl
@@ -99,7 +99,7 @@ replaced_same j p b e h =
 pub many-variable : (rows : Rows) (n : ℕ) (cols : List ℕ) → rows n ≡ None → length cols ≡ rowless rows n → length (cols ++ n ∷ []) ≡ rowless rows (suc n)
 many-variable rows n cols e h = length-last cols n ∙ ap suc h ∙ sym (ap (λ o. elim o [ None ↦ suc (rowless rows n) | Some f ↦ rowless rows n ]) e)
 
-rowless_same : (rows rows' : Rows) (n : ℕ) → ((v : ℕ) → v < n → rows' v ≡ rows v) → rowless rows' n ≡ rowless rows n
+pub rowless_same : (rows rows' : Rows) (n : ℕ) → ((v : ℕ) → v < n → rows' v ≡ rows v) → rowless rows' n ≡ rowless rows n
 rowless_same rows rows' zero h = refl
 rowless_same rows rows' (suc n) h =
     let r = rowless_same rows rows' n (λ v p. h v (omega arith)) in

@@ -88,3 +88,16 @@ module _ (rows : Rows) (n : ℕ) (cols : List ℕ) (tab : ℕ → List ℚ) (s j
     linear = λ y l. linear_then y (l ∙ lc);
     expressed = expressed_then;
   }
+
+-- the same rows and coefficients, written in another way
+pub tabled_alike : (rows rows' : Rows) (n : ℕ) (cols : List ℕ) (tab tab' : ℕ → List ℚ) → Tabled rows n cols tab → ((v : ℕ) → rows' v ≡ rows v) → ((v : ℕ) → v < n → tab' v ≡ tab v) → Tabled rows' n cols tab'
+tabled_alike rows rows' n cols tab tab' t r e = record {
+  known = λ v f g. t.known v f (sym (r v) ∙ g);
+  named = t.named;
+  width = λ v h. ap length (e v h) ∙ t.width v h;
+  own = λ y l. read_same (λ c. dot (tab' c) y) (λ c. dot (tab c) y) cols (λ k h. ap (λ b. dot b y) (e (get_or cols k 0) (t.named k h))) ∙ t.own y l;
+  linear = λ y l v f g.
+      let q = sym (r v) ∙ g in let k = t.known v f q in
+      ap (λ b. dot b y) (e v k.0) ∙ t.linear y l v f q ∙ value_same (λ x. dot (tab x) y) (λ x. dot (tab' x) y) n f k.1 (λ x h. sym (ap (λ b. dot b y) (e x h)));
+  expressed = λ σ g v h. t.expressed σ (λ x f q. g x f (r x ∙ q)) v h ∙ sym (ap (λ b. dot b (read σ cols)) (e v h));
+}

@@ -1,5 +1,5 @@
 -- What is done to all rows of a table.
-use Rattle.std.specs.Prelude.{◌≡◌, ℕ, zero, suc, ◌<◌, ◌++◌, List, [], ◌∷◌, length, map, Some, slice_get, slice_index}
+use Rattle.std.specs.Prelude.{◌≡◌, ℕ, zero, suc, ◌<◌, ◌++◌, List, [], ◌∷◌, length, slice_index}
 use Rattle.rationals.specs.Rational.{ℚ, zero_ℚ}
 use Rattle.fraction128.specs.declared.errors.Wide.{Wide}
 use Rattle.simplex_logic.specs.Forms.{Rows}
@@ -8,31 +8,26 @@ use Rattle.simplex_logic.specs.Tables.{Tabled, is_column}
 use Rattle.simplex_table.specs.View.{row_at}
 use Rattle.simplex_table.specs.Causes.{WideAlong, Replacing}
 
--- the rows with the variable of column j replaced by the row p
-abbrev pub all_replaced : ℕ → List ℚ → List (List ℚ) → List (List ℚ)
-all_replaced j p bs = map (replaced j p) bs
+-- a row with one column more
+abbrev pub with_zero : List ℚ → List ℚ
+with_zero b = b ++ zero_ℚ ∷ []
 
--- the first k rows with a 0 at the end
-abbrev pub grown : ℕ → List (List ℚ) → List (List ℚ)
-grown zero bs = bs
-grown (suc k) [] = []
-grown (suc k) (b ∷ bs) = (b ++ zero_ℚ ∷ []) ∷ grown k bs
-
--- the first k rows with the columns c and c + 1 exchanged
-abbrev pub flipped : ℕ → ℕ → List (List ℚ) → List (List ℚ)
-flipped zero c bs = bs
-flipped (suc k) c [] = []
-flipped (suc k) c (b ∷ bs) = flip c b ∷ flipped k c bs
+-- the first k rows changed by f
+abbrev pub map_first : (List ℚ → List ℚ) → ℕ → List (List ℚ) → List (List ℚ)
+map_first f zero bs = bs
+map_first f (suc k) [] = []
+map_first f (suc k) (b ∷ bs) = f b ∷ map_first f k bs
 
 -- the rows have n columns
 abbrev pub HaveLength : ℕ → List (List ℚ) → Type 0
-HaveLength n bs = (i : ℕ) (b : List ℚ) → slice_get bs i ≡ Some b → length b ≡ n
+HaveLength n bs = (i : ℕ) → i < length bs → length (row_at bs i) ≡ n
 
 -- too wide in one of the rows
 pub record WideInRow (j : ℕ) (p : List ℚ) (bs : List (List ℚ)) (w : Wide) : Type 0 where
   pub row : ℕ
   pub entries : List ℚ
-  pub is : slice_get bs row ≡ Some entries
+  pub inside : row < length bs
+  pub is : entries ≡ row_at bs row
   pub along : WideAlong (length p) (Replacing j p entries) w
 
 -- the same columns in another order, with each variable's coefficients in it

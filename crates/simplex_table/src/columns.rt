@@ -1,9 +1,10 @@
 // What is done to the columns of all rows.
-ghost use Rattle.std.specs.Prelude.{◌≡◌, ◌<◌, ◌≤◌, ◌+◌, List, length, IfOk, IfErr, OnOk, OnErr, vec_len, vec_capacity};
+ghost use Rattle.std.specs.Prelude.{◌≡◌, ◌<◌, ◌≤◌, ◌+◌, List, length, map, IfOk, IfErr, OnOk, OnErr, vec_len, vec_capacity};
 ghost use Rattle.rationals.specs.Rational.{ℚ};
+ghost use Rattle.simplex_logic.specs.Vectors.{replaced, flip};
 ghost use Rattle.simplex_logic.specs.Tables.{Sorted};
 ghost use Rattle.simplex_table.specs.Causes.{OnWide};
-ghost use Rattle.simplex_table.specs.Columns.{all_replaced, grown, flipped, HaveLength, WideInRow, Reordered, RisesBut, RisesFrom};
+ghost use Rattle.simplex_table.specs.Columns.{map_first, with_zero, HaveLength, WideInRow, Reordered, RisesBut, RisesFrom};
 
 use crate::error::TableauError;
 use crate::row::Row;
@@ -11,6 +12,7 @@ use fraction128::Frac;
 use std::alloc::{AllocError, Global};
 
 // Each row with the variable of a column replaced by what it is solved for.
+#[tactic(auto, using(crate::proofs::Firsts::mapped_more, crate::proofs::Firsts::mapped_all, crate::proofs::Firsts::length_of))]
 pub fn replace_all(
     alloc: Global,
     table: &[Row],
@@ -19,7 +21,7 @@ pub fn replace_all(
 ) -> Result<Vec<Row>, TableauError>
     requires in_row { column < length pivot.now }
     requires same_length { HaveLength (length pivot.now) table.now }
-    ensures ok { IfOk result (λ rows. rows.items ≡ all_replaced column pivot.now table.now) }
+    ensures ok { IfOk result (λ rows. rows.items ≡ map (replaced column pivot.now) table.now) }
     ensures wide { IfErr result (OnWide (WideInRow column pivot.now table.now)) }
 {
     let mut rows = Vec::with_capacity(alloc, table.len())?;
@@ -31,7 +33,7 @@ pub fn replace_all(
 
 // Each row with a 0 at the end. A refusal leaves the rows as they were.
 pub fn grow(table: &mut Vec<Row>) -> Result<(), AllocError>
-    ensures ok { OnOk result (table.new.items ≡ grown (length table.old.items) table.old.items) }
+    ensures ok { OnOk result (table.new.items ≡ map with_zero table.old.items) }
     ensures err { OnErr result (table.new.items ≡ table.old.items) }
     ensures len { vec_len table.new ≡ vec_len table.old }
     ensures room { vec_capacity table.old ≤ vec_capacity table.new }
@@ -47,11 +49,14 @@ pub fn grow(table: &mut Vec<Row>) -> Result<(), AllocError>
 
 // The first rows without their last entry.
 fn shrink(table: &mut Vec<Row>, count: usize)
-    ensures rows { (rows : List (List ℚ)) → table.old.items ≡ grown count rows → table.new.items ≡ rows }
+    requires { count ≤ length table.old.items }
+    ensures rows { (rows : List (List ℚ)) → table.old.items ≡ map_first with_zero count rows → table.new.items ≡ rows }
     ensures len { vec_len table.new ≡ vec_len table.old }
     ensures room { vec_capacity table.old ≤ vec_capacity table.new }
 {
-    for v in 0..count.min(table.len()) {
+    let mut v = count;
+    while v > 0 {
+        v -= 1;
         table[v].pop();
     }
 }
@@ -60,7 +65,7 @@ fn shrink(table: &mut Vec<Row>, count: usize)
 fn flip_all(table: &mut Vec<Row>, width: usize, column: usize)
     requires in_row { column + 1 < width }
     requires same_length { HaveLength width table.old.items }
-    ensures { table.new.items ≡ flipped (length table.old.items) column table.old.items }
+    ensures { table.new.items ≡ map (flip column) table.old.items }
 {
     for v in 0..table.len() {
         table[v].flip(column);

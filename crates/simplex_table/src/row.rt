@@ -55,6 +55,7 @@ impl Row {
     }
 
     /// A row of zeros.
+    #[tactic(auto, using(crate::proofs::Entries::zeros_more))]
     pub fn zeros(alloc: Global, columns: usize) -> Result<Row, AllocError>
         ensures { IfOk result (λ row. row ≡ zeros columns) }
     {
@@ -99,6 +100,7 @@ impl Row {
 
     /// The row solved for the variable of a column: that variable's coefficients once this row's variable has taken its
     /// place.
+    #[tactic(auto, using(crate::proofs::Entries::solved_more, crate::proofs::Entries::solved_all))]
     pub fn solved(&self, alloc: Global, column: usize) -> Result<Row, TableauError>
         requires in_row { column < length self.now }
         requires nonzero { at self.now column ≢ zero_ℚ }
@@ -113,6 +115,7 @@ impl Row {
     }
 
     /// The row with the variable of a column replaced by what it is solved for.
+    #[tactic(auto, using(crate::proofs::Entries::replaced_more, crate::proofs::Entries::replaced_all, crate::proofs::Entries::at_read))]
     pub fn replaced(&self, alloc: Global, column: usize, pivot: &Row) -> Result<Row, TableauError>
         requires in_row { column < length self.now }
         requires same_length { length pivot.now ≡ length self.now }
@@ -142,6 +145,7 @@ impl Row {
     }
 
     /// The sum of this row and a multiple of another.
+    #[tactic(auto, using(crate::proofs::Entries::summed_more, crate::proofs::Entries::summed_all, crate::proofs::Entries::at_read))]
     pub fn summed(&self, alloc: Global, by: Frac, row: &Row) -> Result<Row, TableauError>
         requires same_length { length row.now ≡ length self.now }
         ensures ok { IfOk result (λ sum. sum ≡ add_rows self.now (scale_row by row.now)) }
@@ -156,6 +160,7 @@ impl Row {
 }
 
 // a + b * c, where a product with 0 is not computed.
+#[tactic(auto, using(crate::proofs::Entries::add_none_left, crate::proofs::Entries::add_none_right))]
 fn add_product(a: Frac, b: Frac, c: Frac) -> Result<Frac, Wide>
     ensures ok { IfOk result (λ x. x ≡ a +ℚ b *ℚ c) }
     ensures wide { IfErr result (WideBy (MultiplyAdd a b c)) }
@@ -176,6 +181,7 @@ fn kept_entry(row: &[Frac], column: usize, k: usize) -> Frac
 }
 
 // The coefficient at column k of the row solved for the variable of a column.
+#[tactic(auto, using(crate::proofs::Entries::solved_here, crate::proofs::Entries::solved_there, crate::proofs::Entries::solved_none, crate::proofs::Entries::at_read))]
 fn solved_entry(row: &[Frac], column: usize, k: usize) -> Result<Frac, Wide>
     requires here { k < length row.now }
     requires in_row { column < length row.now }
@@ -201,6 +207,7 @@ fn part(value: Delta, real: bool) -> Frac
 }
 
 // The sum of the products of a row with one part of each value, column by column.
+#[tactic(auto, using(crate::proofs::Entries::dot_more, crate::proofs::Entries::dot_all, crate::proofs::Entries::at_read))]
 fn products(row: &[Frac], values: &[Delta], real: bool) -> Result<Frac, Wide>
     requires { length values.now ≡ length row.now }
     ensures ok { IfOk result (λ x. x ≡ dot row.now (parts real (deltas values.now))) }
