@@ -65,7 +65,7 @@ flip-swap (x ∷ xs) k h = sym (swap_is (x ∷ xs) k (k + 1) x (omega arith) h) 
     sets (x ∷ xs) (suc k) d h = ap (λ l. x ∷ l) (sets xs k d (omega arith))
 
 -- ---- the entries of a row in which a variable was replaced
-at_other : (xs : List ℚ) (j k : ℕ) (x : ℚ) → (k ≡ j → ⊥) → at (set xs j x) k ≡ at xs k
+pub at_other : (xs : List ℚ) (j k : ℕ) (x : ℚ) → (k ≡ j → ⊥) → at (set xs j x) k ≡ at xs k
 at_other [] j k x h = refl
 at_other (y ∷ xs) zero zero x h = absurd (h refl)
 at_other (y ∷ xs) zero (suc k) x h = refl

@@ -65,26 +65,32 @@ set_same (c ∷ bs) (suc k) b b' e f = ap (λ l. c ∷ l) (set_same bs k b b' e 
 pub length_of : (n : ℕ) (bs : List (List ℚ)) (i : ℕ) (b : List ℚ) → HaveLength n bs → i < length bs → b ≡ get_or bs i b → length b ≡ n
 length_of n bs i b w h e = ap length (e ∙ any_default bs i b [] h) ∙ w i h
 
--- ---- a list of changed rows, one more at a time
-get-map : (f : List ℚ → List ℚ) (bs : List (List ℚ)) (k : ℕ) (d : List ℚ) → k < length bs → get_or (map f bs) k (f d) ≡ f (get_or bs k d)
+-- ---- a list of changed items, one more at a time
+get-map : {A B : Type 0} (f : A → B) (xs : List A) (k : ℕ) (d : A) → k < length xs → get_or (map f xs) k (f d) ≡ f (get_or xs k d)
 get-map f [] k d h = absurd (omega arith)
-get-map f (b ∷ bs) zero d h = refl
-get-map f (b ∷ bs) (suc k) d h = get-map f bs k d (omega arith)
+get-map f (x ∷ xs) zero d h = refl
+get-map f (x ∷ xs) (suc k) d h = get-map f xs k d (omega arith)
 
-pub length-map : (f : List ℚ → List ℚ) (bs : List (List ℚ)) → length (map f bs) ≡ length bs
+pub length-map : {A B : Type 0} (f : A → B) (xs : List A) → length (map f xs) ≡ length xs
 length-map f [] = refl
-length-map f (b ∷ bs) = ap suc (length-map f bs)
+length-map f (x ∷ xs) = ap suc (length-map f xs)
 
-pub mapped_more : (f : List ℚ → List ℚ) (bs out : List (List ℚ)) (k : ℕ) (b b' : List ℚ) → k < length bs → out ≡ take k (map f bs) → b ≡ get_or bs k b → b' ≡ f b → out ++ b' ∷ [] ≡ take (k + 1) (map f bs)
-mapped_more f bs out k b b' h e r g =
-    ap (λ o. o ++ b' ∷ []) e ∙ ap (λ x. take k (map f bs) ++ x ∷ []) (g ∙ ap f r ∙ sym (get-map f bs k b h)) ∙ sym (take_more (map f bs) k (f b) (subst (λ n. k < n) (sym (length-map f bs)) h))
+pub mapped_more : {A B : Type 0} (f : A → B) (xs : List A) (out : List B) (k : ℕ) (x : A) (y : B) → k < length xs → out ≡ take k (map f xs) → x ≡ get_or xs k x → y ≡ f x → out ++ y ∷ [] ≡ take (k + 1) (map f xs)
+mapped_more f xs out k x y h e r g =
+    ap (λ o. o ++ y ∷ []) e ∙ ap (λ z. take k (map f xs) ++ z ∷ []) (g ∙ ap f r ∙ sym (get-map f xs k x h)) ∙ sym (take_more (map f xs) k (f x) (subst (λ n. k < n) (sym (length-map f xs)) h))
 
-pub mapped_all : (f : List ℚ → List ℚ) (bs out : List (List ℚ)) (k : ℕ) → length bs ≤ k → out ≡ take k (map f bs) → out ≡ map f bs
-mapped_all f bs out k h e = e ∙ take_all k (map f bs) (subst (λ n. n ≤ k) (sym (length-map f bs)) h)
+pub mapped_all : {A B : Type 0} (f : A → B) (xs : List A) (out : List B) (k : ℕ) → length xs ≤ k → out ≡ take k (map f xs) → out ≡ map f xs
+mapped_all f xs out k h e = e ∙ take_all k (map f xs) (subst (λ n. n ≤ k) (sym (length-map f xs)) h)
+
+-- a changed item, by any default
+pub get_mapped_or : {A B : Type 0} (f : A → B) (xs : List A) (k : ℕ) (d : A) (e : B) → k < length xs → get_or (map f xs) k e ≡ f (get_or xs k d)
+get_mapped_or f [] k d e h = absurd (omega arith)
+get_mapped_or f (x ∷ xs) zero d e h = refl
+get_mapped_or f (x ∷ xs) (suc k) d e h = get_mapped_or f xs k d e (omega arith)
 
 -- a changed row
 pub get_mapped : (f : List ℚ → List ℚ) (bs : List (List ℚ)) (k : ℕ) → k < length bs → get_or (map f bs) k [] ≡ f (get_or bs k [])
-get_mapped f bs k h = any_default (map f bs) k [] (f []) (subst (λ n. k < n) (sym (length-map f bs)) h) ∙ get-map f bs k [] h
+get_mapped f bs k h = get_mapped_or f bs k [] [] h
 
 -- rows that were changed alike have one length
 pub HaveLength-map : (f : List ℚ → List ℚ) (n m : ℕ) (bs : List (List ℚ)) → HaveLength n bs → ((b : List ℚ) → length b ≡ n → length (f b) ≡ m) → HaveLength m (map f bs)

@@ -2,3 +2,6 @@ pub mod Entries
 pub mod Values
 pub mod Firsts
 pub mod Settling
+pub mod Soundness
+pub mod Widths
+pub mod Pivoting

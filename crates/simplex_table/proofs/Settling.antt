@@ -185,6 +185,14 @@ rises_set cs j s o c h = let n = length_set_ℕ cs j s in record {
 pub reordered_none : (cols : List ℕ) (bs : List (List ℚ)) → Reordered cols bs cols bs
 reordered_none cols bs = record { tabled = λ rows t. t; members = λ x. refl; columns = refl; rows = refl }
 
+pub reordered_both : (cols cols' cols'' : List ℕ) (bs bs' bs'' : List (List ℚ)) → Reordered cols bs cols' bs' → Reordered cols' bs' cols'' bs'' → Reordered cols bs cols'' bs''
+reordered_both cols cols' cols'' bs bs' bs'' r q = record {
+  tabled = λ rows t. subst (λ n. Tabled rows n cols'' (row_at bs'')) r.rows (q.tabled rows (subst (λ n. Tabled rows n cols' (row_at bs')) (sym r.rows) (r.tabled rows t)));
+  members = λ x. q.members x ∙ r.members x;
+  columns = q.columns ∙ r.columns;
+  rows = q.rows ∙ r.rows;
+}
+
 pub reordered_flip : (k : ℕ) (cols cols' : List ℕ) (bs bs' : List (List ℚ)) → Reordered cols bs cols' bs' → Reordered cols bs (flip k cols') (map (flip k) bs')
 reordered_flip k cols cols' bs bs' r = record {
   tabled = λ rows t.
