@@ -1,18 +1,18 @@
 -- Rows that are made entry by entry.
-use Rattle.std.proofs.Common.{◌≡◌, ◌≢◌, Bool, true, false, cond, Result, Ok, Err, ℕ, zero, suc, ◌+◌, ◌<◌, ◌≤◌, List, [], ◌∷◌, ◌++◌, length, get_or, set, take, refl, sym, ap, ◌∙◌, subst, arith, pos}
+use Rattle.std.proofs.Common.{◌≡◌, ℕ, zero, suc, ◌+◌, ◌<◌, ◌≤◌, List, [], ◌∷◌, ◌++◌, length, get_or, set, take, refl, sym, ap, ◌∙◌, subst, arith, pos}
 use Rattle.std.proofs.lemmas.List.{take_more, take_all}
 use Rattle.std.proofs.lemmas.List.Edits.{swap_is}
 use Rattle.std.specs.List.{swap}
 use Rattle.rationals.specs.Rational.{ℚ, zero_ℚ, one_ℚ, ◌+ℚ◌, ◌*ℚ◌, ◌/ℚ◌, neg_ℚ, inv_ℚ}
 use Rattle.rationals.proofs.RingQ as Q
 use Rattle.rationals.proofs.RingQ.{ring-ℚ, coef}
-use Rattle.rationals.proofs.Ring.{var, con, ◌⊗◌, ◌⊕◌, minus}
+use Rattle.rationals.proofs.Ring.{var, con, ◌⊗◌, minus}
 use Rattle.rationals.proofs.Delta.{zero-mul, mul-zero}
 use Rattle.simplex_logic.specs.Vectors.{at, dot, add_rows, scale_row, replaced, pivot_row, zeros, flip}
 use Rattle.simplex_logic.proofs.Dense.{at-scale, at-set, length-scale}
 use Rattle.simplex_logic.proofs.Table.{length_replaced, length_set, length_add}
 use Rattle.simplex_logic.proofs.Pivot.{length_pivot}
-use Rattle.simplex_logic.proofs.Operands.{at_add, replaced_same}
+use Rattle.simplex_logic.proofs.Operands.{at_add}
 use Rattle.simplex_logic.proofs.Concrete.{dot-take}
 
 -- ---- a + b * c with a factor 0
@@ -58,6 +58,7 @@ flip-swap (x ∷ xs) k h = sym (swap_is (x ∷ xs) k (k + 1) x (omega arith) h) 
   where
     plus : (k : ℕ) → k + 1 ≡ suc k
     plus k = omega arith
+
     sets : {A : Type 0} (xs : List A) (k : ℕ) (d : A) → suc k < length xs → set (set xs k (get_or xs (suc k) d)) (suc k) (get_or xs k d) ≡ flip k xs
     sets [] k d h = absurd (omega arith)
     sets (x ∷ []) zero d h = absurd (omega arith)

@@ -1,9 +1,7 @@
 -- The first rows of a table changed, one more at a time.
-use Rattle.std.proofs.Common.{◌≡◌, ℕ, zero, suc, ◌+◌, ◌-◌, ◌<◌, ◌≤◌, Bool, true, false, Result, Ok, Err, OnOk, is_err, List, [], ◌∷◌, ◌++◌, length, get_or, set, take, map, Some, slice_get, refl, sym, ap, ◌∙◌, subst, arith}
+use Rattle.std.proofs.Common.{◌≡◌, ℕ, zero, suc, ◌+◌, ◌<◌, ◌≤◌, true, false, Result, Ok, Err, OnOk, is_err, List, [], ◌∷◌, ◌++◌, length, get_or, set, take, map, refl, sym, ap, ◌∙◌, subst, arith}
 use Rattle.std.proofs.lemmas.List.{take_more, take_all}
 use Rattle.rationals.specs.Rational.{ℚ, zero_ℚ}
-use Rattle.simplex_logic.specs.Vectors.{replaced, flip}
-use Rattle.simplex_logic.proofs.Grow.{length-flip}
 use Rattle.simplex_table.specs.Columns.{map_first, with_zero, HaveLength}
 
 pub length-map_first : (f : List ℚ → List ℚ) (k : ℕ) (bs : List (List ℚ)) → length (map_first f k bs) ≡ length bs

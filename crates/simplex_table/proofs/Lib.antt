@@ -5,3 +5,4 @@ pub mod Settling
 pub mod Soundness
 pub mod Widths
 pub mod Pivoting
+pub mod Adding

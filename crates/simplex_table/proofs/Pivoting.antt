@@ -1,17 +1,17 @@
 -- The steps of a pivot, over a tableau's state.
-use Rattle.std.proofs.Common.{◌≡◌, ◌≢◌, ℕ, ◌<◌, Bool, false, List, [], length, get_or, set, map, sym, ap, ◌∙◌, subst}
+use Rattle.std.proofs.Common.{◌≡◌, ◌≢◌, ℕ, ◌<◌, List, [], length, get_or, set, map, sym, ap, ◌∙◌, subst}
 use Rattle.rationals.specs.Rational.{ℚ, zero_ℚ}
 use Rattle.rationals.specs.Delta.{Delta}
 use Rattle.fraction128.specs.declared.errors.Wide.{Wide}
-use Rattle.simplex_logic.specs.Tables.{Sorted, is_column}
+use Rattle.simplex_logic.specs.Tables.{Sorted}
 use Rattle.simplex_logic.specs.Vectors.{at, replaced, pivot_row}
 use Rattle.simplex_logic.proofs.Pivot.{length_pivot}
 use Rattle.simplex_logic.proofs.Table.{length_replaced, length_set_ℕ}
 use Rattle.simplex_table.specs.Causes.{WideAlong, Solving}
-use Rattle.simplex_table.specs.Columns.{HaveLength, Reordered, RisesBut, WideInRow}
+use Rattle.simplex_table.specs.Columns.{HaveLength, Reordered, WideInRow}
 use Rattle.simplex_table.specs.View.{State, Sound, row_at, WideIn, Known}
 use Rattle.simplex_table.proofs.Firsts.{any_default, HaveLength-map}
-use Rattle.simplex_table.proofs.Settling.{rises_set, reordered_both}
+use Rattle.simplex_table.proofs.Settling.{reordered_both}
 use Rattle.simplex_table.proofs.Soundness.{same_lengths, sound_pivot}
 use Rattle.simplex_table.proofs.Widths.{wide_solved, wide_replaced}
 

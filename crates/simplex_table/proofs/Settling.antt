@@ -1,12 +1,11 @@
 -- A column is brought to its place by exchanges with its neighbours.
-use Rattle.std.proofs.Common.{◌≡◌, ℕ, zero, suc, ◌+◌, ◌-◌, ◌<◌, ◌≤◌, Bool, true, false, List, [], ◌∷◌, length, get_or, set, map, refl, sym, ap, ◌∙◌, subst, arith}
+use Rattle.std.proofs.Common.{◌≡◌, ℕ, zero, suc, ◌+◌, ◌<◌, ◌≤◌, true, false, List, [], ◌∷◌, length, get_or, set, map, refl, sym, ap, ◌∙◌, subst, arith}
 use Rattle.std.specs.List.{swap}
 use native.Mathlib.Decide.{ℕ_discrete}
 use Rattle.rationals.specs.Rational.{ℚ}
-use Rattle.simplex_logic.specs.Forms.{Rows}
 use Rattle.simplex_logic.specs.Tables.{Tabled, Sorted, is_column}
 use Rattle.simplex_logic.specs.Vectors.{flip}
-use Rattle.simplex_logic.proofs.Bland.{Order3, less, same, more, compare}
+use Rattle.simplex_logic.proofs.Bland.{less, same, more, compare}
 use Rattle.simplex_logic.proofs.Grow.{length-flip, flip_tabled}
 use Rattle.simplex_logic.proofs.Operands.{is_column-flip}
 use Rattle.simplex_logic.proofs.Going.{in_column}
@@ -138,6 +137,7 @@ rises_from k cs r h = record { but = r; above = λ l p q. over l p q (ℕ_discre
       where
         plus : (k : ℕ) → k + 1 ≡ k → ⊥
         plus k e = omega arith
+
     over : (l : ℕ) → k < l → l < length cs → Dec (k + 1 ≡ l) → get_or cs k 0 < get_or cs l 0
     over l p q (yes e) = subst (λ x. get_or cs k 0 < get_or cs x 0) e (next l p q)
     over l p q (no d) = let a = next l p q in let b = r.others (k + 1) l (below (k + 1) l (omega arith) (λ e. d (sym e))) q (plus k) (λ e. apart k l p (sym e)) in omega arith
@@ -154,6 +154,7 @@ rises_all k cs r h i l p q = by_place (ℕ_discrete i k) (ℕ_discrete l k)
       where
         inner : (m : ℕ) → k ≡ suc m → m < length cs
         inner m e = let z = r.but.inside in omega arith
+
         outer : (m : ℕ) → k ≡ suc m → m ≡ k → ⊥
         outer m e f = omega arith
     before m e u (no d) =
@@ -162,9 +163,11 @@ rises_all k cs r h i l p q = by_place (ℕ_discrete i k) (ℕ_discrete l k)
       where
         outer : (m : ℕ) → k ≡ suc m → m ≡ k → ⊥
         outer m e f = omega arith
+
     under : (k : ℕ) → i < k → (m : ℕ) × (k ≡ suc m)
     under zero u = absurd (omega arith)
     under (suc m) u = (m, refl)
+
     by_place : Dec (i ≡ k) → Dec (l ≡ k) → get_or cs i 0 < get_or cs l 0
     by_place (yes e) d = subst (λ x. get_or cs x 0 < get_or cs l 0) (sym e) (r.above l (subst (λ x. x < l) e p) q)
     by_place (no d) (yes e) = let u = subst (λ x. i < x) e p in let m = under k u in subst (λ x. get_or cs i 0 < get_or cs x 0) (sym e) (before m.0 m.1 u (ℕ_discrete i m.0))

@@ -1,9 +1,9 @@
 -- What a tableau keeps, through each call.
-use Rattle.std.proofs.Common.{◌≡◌, ◌≢◌, ℕ, zero, suc, ◌+◌, ◌<◌, ◌≤◌, Bool, true, false, List, [], ◌∷◌, ◌++◌, Option, Some, None, All, length, get_or, set, map, refl, sym, ap, ◌∙◌, subst, arith}
+use Rattle.std.proofs.Common.{◌≡◌, ◌≢◌, ℕ, zero, suc, ◌<◌, List, [], ◌∷◌, ◌++◌, Option, Some, None, All, length, get_or, set, map, refl, sym, ap, ◌∙◌, subst, arith}
 use Rattle.std.proofs.lemmas.List.Elements.{All-head, All-tail}
 use Rattle.rationals.specs.Rational.{ℚ, zero_ℚ, one_ℚ}
-use Rattle.simplex_logic.specs.Forms.{Form, Rows, row_of, Below}
-use Rattle.simplex_logic.specs.Tables.{Tabled, Sorted, is_column, rowless, pivoted}
+use Rattle.simplex_logic.specs.Forms.{Form, row_of, Below}
+use Rattle.simplex_logic.specs.Tables.{Tabled, Sorted, rowless, pivoted}
 use Rattle.simplex_logic.specs.Vectors.{at, zeros, summed, replaced, pivot_row}
 use Rattle.simplex_logic.proofs.Bland.{Order3, less, same, more, compare}
 use Rattle.simplex_logic.proofs.Grow.{variable_tabled, row_tabled, length-last}
@@ -45,10 +45,13 @@ sorted_more cols n o b i l p q = by_place (compare l (length cols))
   where
     put : (a c d : ℕ) → a < c → d ≡ a → d < c
     put a c d h e = omega arith
+
     put_last : (a c d : ℕ) → a < c → d ≡ c → a < d
     put_last a c d h e = omega arith
+
     front : (k : ℕ) → k < length cols → get_or (cols ++ n ∷ []) k 0 ≡ get_or cols k 0
     front k h = get_front cols (n ∷ []) k 0 h
+
     by_place : Order3 l (length cols) → get_or (cols ++ n ∷ []) i 0 < get_or (cols ++ n ∷ []) l 0
     by_place (less h) = let a = front i (omega arith) in let c = front l h in let d = o i l p h in omega arith
     by_place (same e) =
@@ -65,9 +68,9 @@ sound_variable s h =
     let m : length (map with_zero s.table) ≡ n = length-map with_zero s.table ∙ h.long in
     let l : length (s.rows ++ None ∷ []) ≡ suc n = length-last s.rows None in
     let t : Tabled rows (suc n) (s.columns ++ n ∷ []) (row_at table') =
-        variable_tabled rows n s.columns (row_at s.table) (row_at table') h.tabled
-        (ap (λ k. get_or table' k []) (sym m) ∙ get_last (map with_zero s.table) (zeros (length s.columns) ++ one_ℚ ∷ []) [])
-        (λ v p. get_front (map with_zero s.table) ((zeros (length s.columns) ++ one_ℚ ∷ []) ∷ []) v [] (subst (λ k. v < k) (sym m) p) ∙ get_mapped with_zero s.table v (subst (λ k. v < k) (sym h.long) p)) in
+    variable_tabled rows n s.columns (row_at s.table) (row_at table') h.tabled
+    (ap (λ k. get_or table' k []) (sym m) ∙ get_last (map with_zero s.table) (zeros (length s.columns) ++ one_ℚ ∷ []) [])
+    (λ v p. get_front (map with_zero s.table) ((zeros (length s.columns) ++ one_ℚ ∷ []) ∷ []) v [] (subst (λ k. v < k) (sym m) p) ∙ get_mapped with_zero s.table v (subst (λ k. v < k) (sym h.long) p)) in
     record {
       tabled = subst (λ k. Tabled rows' k (s.columns ++ n ∷ []) (row_at table')) (sym l) (tabled_alike rows rows' (suc n) (s.columns ++ n ∷ []) (row_at table') (row_at table') t (none_more s.rows) (λ v p. refl));
       sorted = sorted_more s.columns n h.sorted h.tabled.named;
@@ -89,9 +92,9 @@ sound_row s f h b =
     let new : rows' n ≡ Some f = get_last s.rows (Some f) None in
     let old : (v : ℕ) → (v ≡ n → ⊥) → rows' v ≡ rows v = λ v d. get_other s.rows (Some f) None v d in
     let t : Tabled rows' (suc n) s.columns (row_at table') =
-        row_tabled rows rows' n s.columns (row_at s.table) (row_at table') f h.tabled b new old
-        (ap (λ k. get_or table' k []) (sym h.long) ∙ get_last s.table row [])
-        (λ v p. get_front s.table (row ∷ []) v [] (subst (λ k. v < k) (sym h.long) p)) in
+    row_tabled rows rows' n s.columns (row_at s.table) (row_at table') f h.tabled b new old
+    (ap (λ k. get_or table' k []) (sym h.long) ∙ get_last s.table row [])
+    (λ v p. get_front s.table (row ∷ []) v [] (subst (λ k. v < k) (sym h.long) p)) in
     record {
       tabled = subst (λ k. Tabled rows' k s.columns (row_at table')) (sym l) t;
       sorted = h.sorted;
@@ -110,8 +113,8 @@ sound_pivot s v j cols table h hv hj nz r o =
     let between = map (replaced j p) s.table in
     let m : length between ≡ n = length-map (replaced j p) s.table ∙ h.long in
     let t : Tabled rows n (set s.columns j v) (row_at between) =
-        tabled_alike rows rows n (set s.columns j v) (pivoted v j (row_at s.table)) (row_at between) (pivot_tabled rows n s.columns (row_at s.table) v j h.tabled hv hj nz) (λ x. refl)
-        (λ x q. get_mapped (replaced j p) s.table x (subst (λ k. x < k) (sym h.long) q)) in
+    tabled_alike rows rows n (set s.columns j v) (pivoted v j (row_at s.table)) (row_at between) (pivot_tabled rows n s.columns (row_at s.table) v j h.tabled hv hj nz) (λ x. refl)
+    (λ x q. get_mapped (replaced j p) s.table x (subst (λ k. x < k) (sym h.long) q)) in
     record {
       tabled = subst (λ k. Tabled rows k cols (row_at table)) m (r.tabled rows (subst (λ k. Tabled rows k (set s.columns j v) (row_at between)) (sym m) t));
       sorted = o;
@@ -122,3 +125,20 @@ sound_pivot s v j cols table h hv hj nz r o =
 -- the rows of a sound tableau have one length
 pub same_lengths : (s : State) → Sound s → HaveLength (length s.columns) s.table
 same_lengths s h i p = h.tabled.width i (subst (λ k. i < k) h.long p)
+
+-- ---- the same, as the calls write it
+pub variable_added : (s : State) (rows : List (Option Form)) (cols : List ℕ) (table : List (List ℚ)) (row : List ℚ) (n m : ℕ) → Sound s → rows ≡ s.rows ++ None ∷ [] → cols ≡ s.columns ++ n ∷ [] → n ≡ length s.table → table ≡ map with_zero s.table ++ row ∷ []
+    → row ≡ zeros m ++ one_ℚ ∷ [] → m ≡ length s.columns → Sound (record { rows = rows; columns = cols; table = table })
+variable_added s rows cols table row n m h e f g k l d =
+    let c : cols ≡ s.columns ++ length s.rows ∷ [] = f ∙ ap (λ x. s.columns ++ x ∷ []) (g ∙ h.long) in
+    let t : table ≡ map with_zero s.table ++ (zeros (length s.columns) ++ one_ℚ ∷ []) ∷ [] = k ∙ ap (λ r. map with_zero s.table ++ r ∷ []) (l ∙ ap (λ x. zeros x ++ one_ℚ ∷ []) d) in
+    subst (λ x. Sound (record { rows = x; columns = cols; table = table })) (sym e)
+    (subst (λ x. Sound (record { rows = s.rows ++ None ∷ []; columns = x; table = table })) (sym c)
+    (subst (λ x. Sound (record { rows = s.rows ++ None ∷ []; columns = s.columns ++ length s.rows ∷ []; table = x })) (sym t) (sound_variable s h)))
+
+pub row_added : (s : State) (given : List (ℕ × ℚ)) (rows : List (Option Form)) (table : List (List ℚ)) (row : List ℚ) → Sound s → All (λ t. t.0 < length s.rows) given → rows ≡ s.rows ++ Some (form_of given) ∷ [] → table ≡ s.table ++ row ∷ []
+    → row ≡ summed (row_at s.table) (zeros (length s.columns)) (form_of given) → Sound (record { rows = rows; columns = s.columns; table = table })
+row_added s given rows table row h b e f g =
+    let t : table ≡ s.table ++ summed (row_at s.table) (zeros (length s.columns)) (form_of given) ∷ [] = f ∙ ap (λ r. s.table ++ r ∷ []) g in
+    subst (λ x. Sound (record { rows = x; columns = s.columns; table = table })) (sym e)
+    (subst (λ x. Sound (record { rows = s.rows ++ Some (form_of given) ∷ []; columns = s.columns; table = x })) (sym t) (sound_row s (form_of given) h (below_form (length s.rows) given b)))

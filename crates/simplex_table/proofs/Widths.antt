@@ -1,11 +1,10 @@
 -- The operands of what is too wide are numbers of the tableau.
-use Rattle.std.proofs.Common.{◌≡◌, ◌≢◌, ℕ, zero, suc, ◌+◌, ◌<◌, ◌⊎◌, inl, inr, Bool, List, [], ◌∷◌, ◌++◌, Some, slice_get, length, get_or, set, take, refl, sym, ap, ◌∙◌, subst, arith}
+use Rattle.std.proofs.Common.{◌≡◌, ◌≢◌, ℕ, ◌<◌, ◌⊎◌, inl, inr, List, length, set, take, sym, ap, ◌∙◌, subst}
 use native.Mathlib.Decide.{ℕ_discrete}
 use Rattle.rationals.specs.Rational.{ℚ, zero_ℚ, one_ℚ, ◌*ℚ◌}
 use Rattle.rationals.specs.Delta.{Delta}
 use Rattle.fraction128.specs.declared.errors.Wide.{Wide}
-use Rattle.simplex_logic.specs.Forms.{Form, row_of, IsRow}
-use Rattle.simplex_logic.specs.Tables.{Sorted}
+use Rattle.simplex_logic.specs.Forms.{Form, row_of}
 use Rattle.simplex_logic.specs.Vectors.{at, dot, parts, pivot_row}
 use Rattle.simplex_logic.specs.Quantities.{Quantity, zero_is, one_is, Vertex}
 use Rattle.simplex_logic.proofs.Dense.{at-set}
@@ -13,7 +12,7 @@ use Rattle.simplex_logic.proofs.Operands.{value_times_left, value_times_right, v
 use Rattle.simplex_logic.proofs.Pivot.{length_pivot}
 use Rattle.simplex_logic.proofs.Quantity.{tabled_basis, divide_left, divide_right, times_left, times_right, plus_left, plus_right}
 use Rattle.simplex_table.specs.View.{State, Sound, row_at, WideIn, Known}
-use Rattle.simplex_table.specs.Causes.{OnWide, WideBy, WideAlong, MultiplyAdd, multiplied, added, Solving, Replacing, Multiplying}
+use Rattle.simplex_table.specs.Causes.{OnWide, WideBy, WideAlong, multiplied, added, Solving, Replacing, Multiplying}
 use Rattle.simplex_table.specs.Columns.{WideInRow}
 use Rattle.simplex_table.specs.Values.{WideInPart}
 use Rattle.simplex_table.specs.declared.error.TableauError.{TableauError}
@@ -60,15 +59,19 @@ module _ (s : State) (h : Sound s) (C : List Delta) where
     where
       known : a.row < length s.rows
       known = subst (λ n. a.row < n) h.long a.inside
+
       inside : a.along.column < length s.columns
       inside = subst (λ n. a.along.column < n) (length_pivot j (row_at s.table v) ∙ h.tabled.width v hv) a.along.inside
+
       long : length a.entries ≡ length s.columns
       long = ap length a.is ∙ h.tabled.width a.row known
+
       kept : (l : ℚ) → l ≡ at (set a.entries j zero_ℚ) a.along.column → Dec (a.along.column ≡ j) → Counts l
       kept l e (yes f) = zero_is (e ∙ ap (λ i. at (set a.entries j zero_ℚ) i) f ∙ at-set a.entries j zero_ℚ (subst (λ n. j < n) (sym long) hj))
       kept l e (no f) =
           put l (at (row_at s.table a.row) a.along.column) (e ∙ at_other a.entries j a.along.column zero_ℚ f ∙ ap (λ b. at b a.along.column) a.is)
           (plus_left (row_of s.rows) (length s.rows) (Known s) s.columns (row_at s.table) C h.tabled h.many v j hv hj nz a.row a.along.column known inside)
+
       both : (l r : ℚ) → Replacing j (pivot_row j (row_at s.table v)) a.entries a.along.column l r → Counts l × Counts r
       both l r (multiplied e f) = (
         put l (at (row_at s.table a.row) j) (e ∙ ap (λ b. at b j) a.is) (times_left (row_of s.rows) (length s.rows) (Known s) s.columns (row_at s.table) C h.tabled h.many v j hv hj nz a.row known),
@@ -77,7 +80,7 @@ module _ (s : State) (h : Sound s) (C : List Delta) where
       both l r (added e f) = (
         kept l e (ℕ_discrete a.along.column j),
         put r (at (row_at s.table a.row) j *ℚ at (pivot_row j (row_at s.table v)) a.along.column) (f ∙ ap (λ b. at b j *ℚ at (pivot_row j (row_at s.table v)) a.along.column) a.is)
-        (plus_right (row_of s.rows) (length s.rows) (Known s) s.columns (row_at s.table) C h.tabled h.many v j hv hj nz a.row a.along.column known inside),
+            (plus_right (row_of s.rows) (length s.rows) (Known s) s.columns (row_at s.table) C h.tabled h.many v j hv hj nz a.row a.along.column known inside),
       )
 
   -- a value
@@ -87,6 +90,7 @@ module _ (s : State) (h : Sound s) (C : List Delta) where
     where
       inside : a.along.column < length s.columns
       inside = subst (λ n. a.along.column < n) (ap length e ∙ h.tabled.width x hx) a.along.inside
+
       both : (l r : ℚ) → Multiplying row (parts a.real y) a.along.column l r → Counts l × Counts r
       both l r (multiplied f g) = (
         put l (at (row_at s.table x) a.along.column) (f ∙ ap (λ b. at b a.along.column) e) (value_times_left (row_of s.rows) (length s.rows) (Known s) s.columns (row_at s.table) C h.tabled y c x hx a.along.column inside),

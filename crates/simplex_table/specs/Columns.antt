@@ -3,7 +3,6 @@ use Rattle.std.specs.Prelude.{◌≡◌, ℕ, zero, suc, ◌<◌, ◌++◌, List
 use Rattle.rationals.specs.Rational.{ℚ, zero_ℚ}
 use Rattle.fraction128.specs.declared.errors.Wide.{Wide}
 use Rattle.simplex_logic.specs.Forms.{Rows}
-use Rattle.simplex_logic.specs.Vectors.{replaced, flip}
 use Rattle.simplex_logic.specs.Tables.{Tabled, is_column}
 use Rattle.simplex_table.specs.View.{row_at}
 use Rattle.simplex_table.specs.Causes.{WideAlong, Replacing}

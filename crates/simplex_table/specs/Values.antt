@@ -1,5 +1,5 @@
 -- The value of one row's variable.
-use Rattle.std.specs.Prelude.{ℕ, Bool, true, false, List, length}
+use Rattle.std.specs.Prelude.{Bool, true, false, List, length}
 use Rattle.rationals.specs.Rational.{ℚ}
 use Rattle.rationals.specs.Delta.{Delta, delta}
 use Rattle.fraction128.specs.declared.errors.Wide.{Wide}

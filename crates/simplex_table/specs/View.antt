@@ -1,5 +1,5 @@
 -- A tableau as contracts see it, and what it keeps.
-use Rattle.std.specs.Prelude.{◌≡◌, ℕ, ◌<◌, ◌⊎◌, Bool, false, List, [], ◌∷◌, Option, None, length, set, map, slice_index_or}
+use Rattle.std.specs.Prelude.{◌≡◌, ℕ, ◌<◌, ◌⊎◌, false, List, [], ◌∷◌, Option, length, set, map, slice_index_or}
 use Rattle.rationals.specs.Rational.{ℚ}
 use Rattle.rationals.specs.Delta.{Delta, delta, of_ℚ}
 use Rattle.rationals.specs.Rational.{zero_ℚ}

@@ -1,12 +1,10 @@
-use Rattle.std.proofs.Common.{◌≡◌, ◌≢◌, ◌<◌, List, length, get_or, set, map, sym, ap, ◌∙◌, subst}
+use Rattle.std.proofs.Common.{◌≡◌, List, length, get_or, set, map, sym, ap, ◌∙◌, subst}
 use Rattle.std.proofs.lemmas.Result.{err_from_is_err_and}
-use Rattle.rationals.specs.Rational.{zero_ℚ}
 use Rattle.rationals.specs.Delta.{Delta}
-use Rattle.fraction128.specs.declared.errors.Wide.{Wide}
-use Rattle.simplex_logic.specs.Vectors.{at, replaced}
-use Rattle.simplex_table.specs.Causes.{OnWide, WideAlong, Solving}
+use Rattle.simplex_logic.specs.Vectors.{replaced}
+use Rattle.simplex_table.specs.Causes.{WideAlong, Solving}
 use Rattle.simplex_table.specs.Columns.{HaveLength, Reordered, RisesBut, WideInRow}
-use Rattle.simplex_table.specs.View.{State, Sound, row_at, WideIn, Known}
+use Rattle.simplex_table.specs.View.{State, Sound, WideIn, Known}
 use Rattle.simplex_table.proofs.Pivoting.{solved_in_row, solved_lengths, table_lengths, wide_row, wide_table, sound_after}
 use Rattle.simplex_table.proofs.Settling.{rises_set}
 use Rattle.simplex_table.proofs.Widths.{on_wide}
@@ -69,8 +67,8 @@ invariant_of-self c =
     let cols = c.settle_up-place.new.columns.items in
     let bs = c.settle_up-place.new.table.items in
     let r : Reordered (set s.columns c.args.column c.args.variable) (map (replaced c.args.column c.in_ok-solved.solved) s.table) cols bs =
-        subst (λ (u : State). Reordered (set u.columns c.args.column c.args.variable) (map (replaced c.args.column c.in_ok-solved.solved) s.table) cols bs) c.self.view_is
-        (subst (λ x. Reordered (set c.self.inside.columns.items c.args.column c.args.variable) x cols bs) t c.settle_up-place.ensures.same) in
+    subst (λ (u : State). Reordered (set u.columns c.args.column c.args.variable) (map (replaced c.args.column c.in_ok-solved.solved) s.table) cols bs) c.self.view_is
+    (subst (λ x. Reordered (set c.self.inside.columns.items c.args.column c.args.variable) x cols bs) t c.settle_up-place.ensures.same) in
     subst (λ (u : State). Sound (record { rows = u.rows; columns = c.settle_down.new.columns.items; table = c.settle_down.new.table.items })) (sym c.self.view_is)
     (sound_after s (subst Sound c.self.view_is c.self.invariant) c.args.variable c.args.column c.index.result.now c.in_ok-solved.solved c.requires.known c.requires.in_row c.requires.nonzero e c.in_ok-solved.ensures.ok cols
     c.settle_down.new.columns.items bs c.settle_down.new.table.items r c.settle_down.ensures.same c.settle_down.ensures.sorted)

@@ -1,4 +1,4 @@
-use Rattle.std.proofs.Common.{◌≡◌, ◌<◌, ◌++◌, ◌∷◌, [], length, refl, sym, ap, ◌∙◌, arith, rules}
+use Rattle.std.proofs.Common.{◌<◌, ◌++◌, ◌∷◌, [], length, refl, sym, ap, ◌∙◌, rules}
 use Rattle.simplex_table.specs.Columns.{with_zero}
 use Rattle.simplex_table.proofs.Firsts.{first_more, first_all, on_ok}
 use Rattle.simplex_table.proofs.columns.grow.Goals as goal

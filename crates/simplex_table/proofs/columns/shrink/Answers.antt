@@ -1,5 +1,4 @@
-use Rattle.std.proofs.Common.{◌≡◌, ◌<◌, ◌≤◌, ◌-◌, suc, length, refl, sym, ap, ◌∙◌, subst, arith, rules}
-use Rattle.simplex_table.specs.Columns.{with_zero}
+use Rattle.std.proofs.Common.{◌-◌, arith, rules}
 use Rattle.simplex_table.proofs.Firsts.{one_back}
 use Rattle.simplex_table.proofs.columns.shrink.Goals as goal
 

@@ -1,5 +1,5 @@
 -- The rows from v on are as they were.
-use Rattle.std.proofs.Common.{◌≡◌, ℕ, ◌≤◌, List, vec_len, vec_capacity}
+use Rattle.std.proofs.Common.{◌≡◌, ◌≤◌, List, vec_len, vec_capacity}
 use Rattle.rationals.specs.Rational.{ℚ}
 use Rattle.simplex_table.specs.Columns.{map_first, with_zero}
 use Rattle.simplex_table.proofs.columns.shrink.Given as goal

@@ -1,5 +1,4 @@
-use Rattle.std.proofs.Common.{◌≡◌, ◌∙◌, ◌+◌, ap}
-use Rattle.rationals.specs.Rational.{ℚ}
+use Rattle.std.proofs.Common.{◌∙◌, ◌+◌, ap}
 use Rattle.std.specs.List.{swap}
 use Rattle.simplex_table.proofs.Entries.{flip-swap}
 use Rattle.simplex_table.proofs.row.Row.flip.Goals as goal
