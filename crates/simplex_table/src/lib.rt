@@ -17,6 +17,8 @@ ghost use Rattle.simplex_table.specs.View.{form_of, row_at, deltas, Sound, Excha
 mod columns;
 mod error;
 mod row;
+#[cfg(test)]
+mod tests;
 
 use columns::{grow, replace_all, settle_down, settle_up};
 pub use error::TableauError;

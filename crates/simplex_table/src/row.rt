@@ -32,26 +32,11 @@ impl Model for Row {
 }
 
 impl Row {
-    /// The number of columns.
-    pub fn len(&self) -> usize
-        ensures { result ≡ length self.now }
-    {
-        self.entries.len()
-    }
-
     /// The coefficients, in the columns' order.
     pub fn entries(&self) -> &[Frac]
         ensures { result.now ≡ self.now }
     {
         &self.entries
-    }
-
-    /// The coefficient at a column.
-    pub fn at(&self, column: usize) -> Frac
-        requires { column < length self.now }
-        ensures { result ≡ at self.now column }
-    {
-        self.entries[column]
     }
 
     /// A row of zeros.
