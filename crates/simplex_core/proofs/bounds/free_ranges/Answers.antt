@@ -1,0 +1,5 @@
+use Rattle.simplex_core.proofs.RangeLemmas.{none_free, one_more_free}
+use Rattle.simplex_core.proofs.bounds.free_ranges.Goals as goal
+
+pub loop-made-preserved : goal.loop-made-preserved
+loop-made-preserved c = one_more_free c.loop-made._made c.loop-made.ranges.items c.push.new.self.items c.loop-made.invariant c.in_ok-push.ensures.items

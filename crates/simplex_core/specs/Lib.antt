@@ -1,0 +1,5 @@
+pub mod Ranges
+pub mod Choosing
+pub mod Conflicts
+pub mod Wides
+pub mod Checking
