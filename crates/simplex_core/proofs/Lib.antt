@@ -5,3 +5,5 @@ pub mod PointLemmas
 pub mod MarkLemmas
 pub mod TurnLemmas
 pub mod WideLemmas
+pub mod SolveLemmas
+pub mod ContentLemmas

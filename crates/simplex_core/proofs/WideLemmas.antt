@@ -13,7 +13,7 @@ use Rattle.simplex_core.specs.declared.wide.WideAt.{WideAt}
 use Rattle.simplex_core.specs.declared.wide.Stop.{Stop}
 use Rattle.simplex_core.specs.declared.wide.Stop.TheVariants.{Wide as WideStop, NoMemory as MemoryStop}
 use Rattle.simplex_core.specs.Ranges.{Ranged}
-use Rattle.simplex_core.specs.Wides.{values_of, IsWide, OnStop, ErrorStopsAt, Known}
+use Rattle.simplex_core.specs.Wides.{values_of, IsWide, OnStop, ErrorStopsAt, Known, KnownOr}
 use Rattle.simplex_core.specs.Checking.{IsWideAtVertex, IsWideAnyway, IsWideIn}
 
 pub wide_of : (s : State) (handed : Form → Type 0) (bounds : List Bound) (w : WideAt) → w.basis ≡ s.columns → WideIn s handed (values_of bounds) w.wide → IsWide s.rows handed bounds w
@@ -41,3 +41,9 @@ pub pivot_stops : (s s' : State) (error : TableauError) (stop : Stop) → s' ≡
 pivot_stops s s' error stop q h k =
     error_stops s.columns error (λ w. (C : List Delta) → WideIn s (Known s.rows) C w) (IsWideAnyway s.rows) stop (subst (λ (z : State). ErrorStopsAt z.columns error stop) q h) k
     (λ w e f bounds. wide_of s (Known s.rows) bounds w e (f (values_of bounds)))
+
+pub row_stops : (s s' : State) (f : Form) (bounds : List Bound) (error : TableauError) (stop : Stop) → s' ≡ s → ErrorStopsAt s'.columns error stop → OnWide (λ w. (C : List Delta) → WideIn s (KnownOr s.rows f) C w) error
+    → OnStop (IsWide s.rows (KnownOr s.rows f) bounds) stop
+row_stops s s' f bounds error stop q h k =
+    error_stops s.columns error (λ w. (C : List Delta) → WideIn s (KnownOr s.rows f) C w) (IsWide s.rows (KnownOr s.rows f) bounds) stop (subst (λ (z : State). ErrorStopsAt z.columns error stop) q h) k
+    (λ w e g. wide_of s (KnownOr s.rows f) bounds w e (g (values_of bounds)))

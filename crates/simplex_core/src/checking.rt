@@ -35,7 +35,7 @@ impl Model for Spent {
 }
 
 /// No variable of so many.
-struct NoneSpent;
+pub struct NoneSpent;
 
 impl Makes for NoneSpent {
     type From = usize;
@@ -92,7 +92,7 @@ fn points(alloc: Global, columns: &[usize], values: &[Delta]) -> Result<Vec<Delt
 }
 
 /// The number of each column's range that is nearest to 0.
-fn starts(alloc: Global, columns: &[usize], ranges: &[Range]) -> Result<Vec<Delta>, AllocError>
+pub fn starts(alloc: Global, columns: &[usize], ranges: &[Range]) -> Result<Vec<Delta>, AllocError>
     requires named { (k : ℕ) → k < length columns.now → slice_index columns.now k < length ranges.now }
     requires straight { (v : ℕ) → IsStraight (range_at ranges.now v) }
     ensures { IfOk result (λ v. AreStarts columns.now ranges.now v.items) }
@@ -106,7 +106,7 @@ fn starts(alloc: Global, columns: &[usize], ranges: &[Range]) -> Result<Vec<Delt
 }
 
 /// The values of all variables, from those of the columns.
-fn anew(alloc: Global, tableau: &Tableau, at_columns: &[Delta]) -> Result<Vec<Delta>, Stop>
+pub fn anew(alloc: Global, tableau: &Tableau, at_columns: &[Delta]) -> Result<Vec<Delta>, Stop>
     requires { length at_columns.now ≡ length tableau.now.columns }
     ensures ok { IfOk result (λ values. AreValues tableau.now (deltas at_columns.now) values.items) }
     ensures wide { IfErr result (OnStop (IsWideAtVertex tableau.now (deltas at_columns.now))) }
@@ -195,7 +195,7 @@ fn take_turn(
 }
 
 /// Takes turns until there is none left. The conflict, if there is one.
-fn repair(
+pub fn repair(
     alloc: Global,
     tableau: &mut Tableau,
     ranges: &[Range],

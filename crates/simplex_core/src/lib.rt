@@ -7,4 +7,5 @@ pub mod certificate;
 pub mod checking;
 pub mod choice;
 pub mod lists;
+pub mod simplex;
 pub mod wide;
