@@ -1,12 +1,12 @@
 -- A simplex through its calls.
-use Rattle.std.proofs.Common.{◌≡◌, ℕ, zero, suc, ◌+◌, ◌<◌, ◌≤◌, Bool, true, false, List, [], ◌∷◌, ◌++◌, ◌⊎◌, inl, inr, length, get_or, take, map, Option, Some, None, Result, Ok, Err, refl, sym, ap, ◌∙◌, subst, arith}
-use Rattle.std.specs.Prelude.{Contains, OnOk, OnErr}
+use Rattle.std.proofs.Common.{◌≡◌, ℕ, zero, suc, ◌+◌, ◌<◌, ◌≤◌, Bool, true, false, cond, List, [], ◌∷◌, ◌++◌, ◌⊎◌, inl, inr, length, get_or, take, map, Option, Some, None, Result, Ok, Err, refl, sym, ap, ◌∙◌, subst, arith}
+use Rattle.std.specs.Prelude.{Contains, OnOk, OnErr, IsSome}
 use Rattle.std.proofs.lemmas.List.{take-append-le, length-take, length-append, get_or_append_left}
 use Rattle.std.proofs.lemmas.List.Elements.{Contains-append_cases}
 use Rattle.rationals.specs.Rational.{ℚ, zero_ℚ}
 use Rattle.rationals.specs.Delta.{Delta, of_ℚ}
 use Rattle.fraction128.specs.declared.infinitesimal.Delta.{Delta as Fractions}
-use Rattle.simplex_logic.specs.Forms.{Form, row_of, Solves, reals, infs, value}
+use Rattle.simplex_logic.specs.Forms.{Form, row_of, Solves, reals, infs, value, Below}
 use Rattle.simplex_logic.specs.Quantities.{In}
 use Rattle.simplex_core.specs.Wides.{values_of}
 use Rattle.simplex_table.specs.View.{State, delta_at, deltas}
@@ -128,9 +128,17 @@ at_end [] k h = refl
 at_end (v ∷ vs) zero h = absurd (omega arith)
 at_end (v ∷ vs) (suc k) h = at_end vs k (omega arith)
 
+below_more_rows : (m k : ℕ) (g : Form) → m ≤ k → Below m g → Below k g
+below_more_rows m k [] l h = tt
+below_more_rows m k (x ∷ g) l h = (omega (arith, h.0), below_more_rows m k g l h.1)
+
 pub found_more : (s s' : State) (bounds : List Bound) (values : List Fractions) → s'.rows ≡ s.rows ++ None ∷ [] → s'.columns ≡ s.columns ++ length s.rows ∷ [] → IsFound s bounds values → IsFound s' bounds values
 found_more s s' bounds values e f h = record {
   long = omega (arith, h.long, ap length e, length-append s.rows (None ∷ []));
+  known = λ v g q.
+      let k = h.known v g (sym (row_more s.rows v) ∙ ap (λ (rs : List (Option Form)). row_of rs v) (sym e) ∙ q) in
+      let l : length s.rows ≤ length s'.rows = omega (arith, ap length e, length-append s.rows (None ∷ [])) in
+      (omega (arith, k.0), below_more_rows (length s.rows) (length s'.rows) g l k.1);
   solution = record {
     solves = (λ v g q. h.solution.solves.0 v g (sym (row_more s.rows v) ∙ ap (λ (rs : List (Option Form)). row_of rs v) (sym e) ∙ q), λ v g q. h.solution.solves.1 v g (sym (row_more s.rows v) ∙ ap (λ (rs : List (Option Form)). row_of rs v) (sym e) ∙ q));
     met = h.solution.met;
@@ -158,3 +166,7 @@ given_content rows bs bs' ss ss' e f = ap (λ x. content rows x ss None) e ∙ a
 
 pub known_rows : (bounds : List Bound) (rows rows' : List (Option Form)) → rows' ≡ rows → ((b : Bound) → Contains bounds b → b.variable < length rows) → (b : Bound) → Contains bounds b → b.variable < length rows'
 known_rows bounds rows rows' e h = subst (λ (rs : List (Option Form)). (b : Bound) → Contains bounds b → b.variable < length rs) (sym e) h
+
+pub current_of : (b : Bool) (vs : List Delta) → IsSome (cond b (Some vs) None) → b ≡ true
+current_of true vs h = refl
+current_of false vs h = h

@@ -7,3 +7,5 @@ pub mod TurnLemmas
 pub mod WideLemmas
 pub mod SolveLemmas
 pub mod ContentLemmas
+pub mod ConcreteLemmas
+pub mod ConcreteWide

@@ -52,6 +52,7 @@ solved_of s n bounds ranges values spent None g l h =
     let t = h.0 in
     record {
       long = omega (arith, t.long);
+      known = t.going.tabled.known;
       solution = record { solves = t.going.solves; met = λ b i. g.met b i (delta_at values b.variable) (h.1 b.variable) };
       stands = λ k p. stands_listed n bounds ranges (get_or s.columns k 0) (delta_at values (get_or s.columns k 0)) g (t.stands k p);
     }

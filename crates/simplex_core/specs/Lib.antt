@@ -6,3 +6,4 @@ pub mod Checking
 pub mod Content
 pub mod Solving
 pub mod Inside
+pub mod Concrete

@@ -4,7 +4,7 @@ use Rattle.rationals.specs.Delta.{Delta}
 use Rattle.fraction128.specs.declared.errors.Wide.{Wide}
 use Rattle.simplex_logic.specs.Forms.{Form, row_of, IsRow}
 use Rattle.simplex_logic.specs.Quantities.{Basis, Quantity}
-use Rattle.simplex_table.specs.View.{delta_of}
+use Rattle.simplex_table.specs.View.{State, Sound, delta_of}
 use Rattle.simplex_table.specs.Causes.{op_fits}
 use Rattle.simplex_table.specs.declared.error.TableauError.{TableauError}
 use Rattle.simplex_table.specs.declared.error.TableauError.TheVariants.{Wide as TooWide, NoMemory}
@@ -29,13 +29,13 @@ abbrev pub OnStop : (WideAt → Type 0) → Stop → Type 0
 OnStop P (WideStop w) = P w
 OnStop P MemoryStop = ⊤
 
--- the stop is this operation at these columns, or want of memory
-abbrev pub StopsAt : List ℕ → Wide → Stop → Type 0
-StopsAt columns wide = OnStop (λ w. (w.basis ≡ columns) × (w.wide ≡ wide))
+-- the stop is this operation at the columns of the tableau, which is sound, or want of memory
+abbrev pub StopsIn : State → Wide → Stop → Type 0
+StopsIn s wide = OnStop (λ w. (w.basis ≡ s.columns) × (w.wide ≡ wide) × Sound s)
 
--- the stop is the error at these columns, or want of memory
-abbrev pub ErrorStopsAt : List ℕ → TableauError → Stop → Type 0
-ErrorStopsAt columns error = OnStop (λ w. (w.basis ≡ columns) × (error ≡ TooWide w.wide))
+-- the stop is the error at the columns of the tableau, which is sound, or want of memory
+abbrev pub ErrorStopsIn : State → TableauError → Stop → Type 0
+ErrorStopsIn s error = OnStop (λ w. (w.basis ≡ s.columns) × (error ≡ TooWide w.wide) × Sound s)
 
 -- one of the rows
 abbrev pub Known : List (Option Form) → Form → Type 0

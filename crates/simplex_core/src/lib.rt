@@ -6,6 +6,7 @@ pub mod bounds;
 pub mod certificate;
 pub mod checking;
 pub mod choice;
+pub mod concrete;
 pub mod lists;
 pub mod simplex;
 pub mod wide;

@@ -11,12 +11,14 @@ ghost use Rattle.simplex_core.specs.Conflicts.{IsConflict};
 ghost use Rattle.simplex_core.specs.Wides.{OnStop, IsWide, Known, KnownOr};
 ghost use Rattle.simplex_core.specs.Content.{IsSolution, value_in};
 ghost use Rattle.simplex_core.specs.Solving.{IsSolved};
+ghost use Rattle.simplex_core.specs.Concrete.{IsConcrete};
 
-use crate::bounds::{Bound, first_crossing, ranges_of, zero};
+use crate::bounds::{Bound, first_crossing, ranges_of};
 use crate::certificate::pair;
 use crate::checking::{NoneSpent, Progress, anew, repair, starts};
-use crate::lists::Multipliers;
-use crate::wide::{Stop, WideAt, stop_at};
+use crate::concrete::{common_step, concrete_values, value_of};
+use crate::lists::{Fracs, Multipliers};
+use crate::wide::{Stop, WideAt, stop_at, wide_at};
 use fraction128::{Delta, Frac};
 use simplex_table::Tableau;
 use std::alloc::{AllocError, Global};
@@ -218,10 +220,25 @@ impl Simplex {
         requires { var < length self.now.rows }
         ensures { (vs : List Infinitesimal) → self.now.found ≡ Some vs → delta_of result ≡ value_in vs var }
     {
-        if var < self.values.len() {
-            self.values[var]
-        } else {
-            zero()
+        value_of(&self.values, var)
+    }
+
+    /// Fractions for all variables that meet every row and bound, from the values that the newest check found.
+    ///
+    /// Errors: `Wide` where an operation on the way is too wide.
+    pub fn concrete(&self, alloc: Global) -> Result<Fracs, Stop>
+        requires { IsSome self.now.found }
+        ensures ok { IfOk result (IsConcrete self.now.rows self.now.bounds) }
+        ensures wide { IfErr result (OnStop (IsWide self.now.rows (Known self.now.rows) self.now.bounds)) }
+    {
+        let count = self.tableau.len();
+        let step = match common_step(&self.bounds, &self.values) {
+            Ok(step) => step,
+            Err(wide) => return Err(wide_at(alloc, &self.tableau, wide)),
+        };
+        match concrete_values(alloc, &self.values, count, step) {
+            Ok(numbers) => Ok(Fracs::from_vec(numbers)),
+            Err(error) => Err(stop_at(alloc, &self.tableau, error)),
         }
     }
 }

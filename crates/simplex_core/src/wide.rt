@@ -1,7 +1,8 @@
 //! Why a call on a simplex has no result.
 
 ghost use Rattle.std.specs.Prelude.{◌≡◌, IfOk};
-ghost use Rattle.simplex_core.specs.Wides.{StopsAt, ErrorStopsAt};
+ghost use Rattle.simplex_table.specs.View.{Sound};
+ghost use Rattle.simplex_core.specs.Wides.{StopsIn, ErrorStopsIn};
 ghost use Rattle.simplex_core.specs.declared.wide.Stop.TheVariants.{NoMemory};
 
 use crate::lists::Vars;
@@ -43,7 +44,7 @@ impl<T: Drop> From<AllocFailed<T>> for Stop {
 
 /// The columns of a tableau, copied.
 fn basis_of(alloc: Global, tableau: &Tableau) -> Result<Vars, AllocError>
-    ensures { IfOk result (λ basis. basis ≡ tableau.now.columns) }
+    ensures { IfOk result (λ basis. (basis ≡ tableau.now.columns) × Sound tableau.now) }
 {
     let columns = Vec::from_slice(alloc, tableau.columns())?;
     Ok(Vars::from_vec(columns))
@@ -51,7 +52,7 @@ fn basis_of(alloc: Global, tableau: &Tableau) -> Result<Vars, AllocError>
 
 /// An operation that is too wide, with the basis of the tableau.
 pub fn wide_at(alloc: Global, tableau: &Tableau, wide: Wide) -> Stop
-    ensures { StopsAt tableau.now.columns wide result }
+    ensures { StopsIn tableau.now wide result }
 {
     match basis_of(alloc, tableau) {
         Ok(basis) => Stop::Wide(WideAt { basis, wide }),
@@ -61,7 +62,7 @@ pub fn wide_at(alloc: Global, tableau: &Tableau, wide: Wide) -> Stop
 
 /// The error of a tableau, with the basis of the tableau.
 pub fn stop_at(alloc: Global, tableau: &Tableau, error: TableauError) -> Stop
-    ensures { ErrorStopsAt tableau.now.columns error result }
+    ensures { ErrorStopsIn tableau.now error result }
 {
     match error {
         TableauError::Wide(wide) => wide_at(alloc, tableau, wide),
