@@ -108,6 +108,7 @@ one_more_free count ranges ranges' h e = subst (λ rs. AllFree (count + 1) rs) (
   where
     longer : (rs : List Range) (n : ℕ) → length rs ≡ n → length (rs ++ free ∷ []) ≡ n + 1
     longer rs n e = omega (arith, length-append rs (free ∷ []))
+
     last : (rs : List Range) (v : ℕ) → range_at rs v ≡ free → range_at (rs ++ free ∷ []) v ≡ free
     last [] zero e = refl
     last [] (suc v) e = refl

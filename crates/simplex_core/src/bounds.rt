@@ -187,11 +187,7 @@ fn free_ranges(alloc: Global, count: usize) -> Result<Vec<Range>, AllocError>
 }
 
 /// The range that the bounds leave to each variable.
-pub fn ranges_of(
-    alloc: Global,
-    count: usize,
-    bounds: &[Bound],
-) -> Result<Vec<Range>, AllocError>
+pub fn ranges_of(alloc: Global, count: usize, bounds: &[Bound]) -> Result<Vec<Range>, AllocError>
     requires { (b : Bound) → Contains bounds.now b → b.variable < count }
     ensures { IfOk result (λ v. Ranged count bounds.now v.items) }
 {

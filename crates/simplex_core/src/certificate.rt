@@ -69,5 +69,4 @@ pub fn pair(alloc: Global, low: &Bound, up: &Bound) -> Result<Multipliers, Alloc
 /// No values meet the rows and the bounds that a conflict names.
 pub fn conflicts_refute()
     ensures { ConflictsRefute }
-{
-}
+{}

@@ -118,12 +118,7 @@ pub fn anew(alloc: Global, tableau: &Tableau, at_columns: &[Delta]) -> Result<Ve
 }
 
 /// Lets a basic variable take the place of a column's variable.
-fn pivot(
-    alloc: Global,
-    tableau: &mut Tableau,
-    variable: usize,
-    column: usize,
-) -> Result<(), Stop>
+fn pivot(alloc: Global, tableau: &mut Tableau, variable: usize, column: usize) -> Result<(), Stop>
     requires known { variable < length tableau.old.rows }
     requires basic { is_column tableau.old.columns variable ≡ false }
     requires in_row { column < length tableau.old.columns }

@@ -92,13 +92,7 @@ fn least(step: Frac, other: Option<Frac>) -> Frac
     ensures { IsLeast step other result }
 {
     match other {
-        Some(limit) => {
-            if is_less(limit, step) {
-                limit
-            } else {
-                step
-            }
-        }
+        Some(limit) => { if is_less(limit, step) { limit } else { step } }
         None => step,
     }
 }

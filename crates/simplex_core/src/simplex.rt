@@ -1,6 +1,6 @@
 //! The simplex, as its callers see it.
 
-ghost use Rattle.std.specs.Prelude.{◌≡◌, ◌<◌, ◌++◌, ◌∷◌, [], ℕ, List, Bool, false, true, None, Some, length, All, Contains, IfOk, IfErr, OnOk, OnErr, IsSomeAnd, IsSome};
+ghost use Rattle.std.specs.Prelude.{◌≡◌, ◌↔◌, IsTrue, ◌<◌, ◌++◌, ◌∷◌, [], ℕ, List, Bool, false, true, None, Some, length, All, Contains, IfOk, IfErr, OnOk, OnErr, IsSomeAnd, IsSome};
 ghost use Rattle.rationals.specs.Delta.{Delta as Infinitesimal};
 ghost use Rattle.simplex_logic.specs.Forms.{row_of};
 ghost use Rattle.simplex_table.specs.View.{form_of, delta_of};
@@ -61,6 +61,13 @@ impl Model for Simplex {
     ghost invariant = { IsSimplex };
 }
 
+/// Whether all terms name variables below a number.
+fn all_below(row: &[(usize, Frac)], count: usize) -> bool
+    ensures { IsTrue result ↔ All (λ t. t.0 < count) row.now }
+{
+    row.iter().all(|t| t.0 < count)
+}
+
 /// Values of the tableau's variables that meet the rows and the bounds, or a conflict of the bounds.
 fn solve(
     alloc: Global,
@@ -84,7 +91,10 @@ fn solve(
         spent: made::<NoneSpent>(&count, &()),
     };
     let conflict = repair(alloc, tableau, &ranges, &mut run)?;
-    let Progress { values: found, spent: _ } = run;
+    let Progress {
+        values: found,
+        spent: _,
+    } = run;
     *values = found;
     Ok(conflict)
 }
@@ -102,6 +112,28 @@ impl Simplex {
             values: Vec::new(alloc),
             current: false,
         }
+    }
+
+    /// How many variables there are.
+    pub fn vars(&self) -> usize
+        ensures { result ≡ length self.now.rows }
+    {
+        self.tableau.len()
+    }
+
+    /// How many marks there are.
+    pub fn marks(&self) -> usize
+        ensures { result ≡ length self.now.saved }
+    {
+        self.marks.len()
+    }
+
+    /// Whether the row names variables that there are.
+    pub fn knows(&self, row: &[(usize, Frac)]) -> bool
+        ensures { IsTrue result ↔ All (λ t. t.0 < length self.now.rows) row.now }
+    {
+        let count = self.tableau.len();
+        all_below(row, count)
     }
 
     /// Makes a variable, and answers its number. Values that a check found stay, with 0 for the new variable.
@@ -204,7 +236,12 @@ impl Simplex {
         ensures wide { (w : WideAt) → result ≡ Outcome.Wide w → IsWide self.old.rows (Known self.old.rows) self.old.bounds w }
     {
         self.current = false;
-        match solve(self.alloc, &mut self.tableau, &self.bounds, &mut self.values) {
+        match solve(
+            self.alloc,
+            &mut self.tableau,
+            &self.bounds,
+            &mut self.values,
+        ) {
             Ok(None) => {
                 self.current = true;
                 Outcome::Feasible

@@ -10,7 +10,7 @@ index-range-requires c =
     omega (arith, i, c.loop-bound.invariant.long, c.loop-bound.ranges.ok.0)
 
 pub index_mut-requires : goal.index_mut-requires
-index_mut-requires c = 
+index_mut-requires c =
     let i = c.requires c.bound-item.result (listed_at c.args.bounds.now c.loop-bound.bound-index c.bound-item.result (omega arith) c.bound-item.is) in
     omega (arith, i, c.loop-bound.invariant.long, c.loop-bound.ranges.ok.0)
 

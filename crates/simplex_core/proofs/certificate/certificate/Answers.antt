@@ -21,7 +21,7 @@ loop-k-preserved c =
     let s : IsStop (range_at c.args.ranges.now (get_or c.args.columns.now c.loop-k.k 0)) (turned (not c.args.bound.now.upper) (at c.args.row.now c.loop-k.k)) c.stop_of.result =
     subst (λ q. IsStop (range_at c.args.ranges.now (get_or c.args.columns.now c.loop-k.k 0)) q c.stop_of.result) e
     (subst (λ r. IsStop r c.oriented-by.result c.stop_of.result) (range_read c.args.ranges.now (get_or c.args.columns.now c.loop-k.k 0) c.index-ranges-columns.result i c.index-ranges-columns.is) c.stop_of.ensures) in
-    let grown : c.match-stop_of.multipliers.items ≡ c.loop-k.multipliers.items ++ listed c.stop_of.result = elim c.match-stop_of.branch [ 
+    let grown : c.match-stop_of.multipliers.items ≡ c.loop-k.multipliers.items ++ listed c.stop_of.result = elim c.match-stop_of.branch [
       | in-Some+in_ok-push-2 w ↦ let e : c.match-stop_of.multipliers.items ≡ c.loop-k.multipliers.items ++ w.in-Some.stop ∷ [] = cc (w.in_ok-push-2.ensures.items) in e ∙ ap (λ o. c.loop-k.multipliers.items ++ listed o) (sym w.in-Some.is)
       | in_default w ↦ let e : c.match-stop_of.multipliers.items ≡ c.loop-k.multipliers.items = cc in e ∙ sym (append-nil c.loop-k.multipliers.items) ∙ ap (λ o. c.loop-k.multipliers.items ++ listed o) (sym w.in_default.is)
     ] in
