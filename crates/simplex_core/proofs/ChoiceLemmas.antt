@@ -1,5 +1,5 @@
 -- What the searches of a turn find.
-use Rattle.std.proofs.Common.{◌≡◌, ℕ, zero, suc, ◌+◌, ◌<◌, ◌≤◌, Bool, List, [], ◌∷◌, ◌⊎◌, inl, inr, length, get_or, refl, sym, ap, ◌∙◌, subst, arith, below_more, ℤ, pos, negsuc}
+use Rattle.std.proofs.Common.{◌≡◌, ℕ, zero, suc, ◌+◌, ◌<◌, ◌≤◌, List, [], ◌∷◌, ◌⊎◌, inl, inr, length, get_or, refl, sym, ap, ◌∙◌, subst, arith, below_more, ℤ, pos, negsuc}
 use Rattle.std.proofs.lemmas.Int.{ints}
 use lib.Signed.{◌≤ℤ◌, ◌<ℤ◌}
 use Rattle.std.proofs.lemmas.List.{get_or_read}
@@ -8,13 +8,12 @@ use Rattle.rationals.specs.Delta.{Delta, of_ℚ}
 use Rattle.rationals.proofs.OrderQ.{either, num_le}
 use Rattle.rationals.proofs.FieldQ.{zero_of_num}
 use Rattle.fraction128.specs.declared.infinitesimal.Delta.{Delta as Fractions}
-use Rattle.simplex_logic.specs.Limits.{Stuck, Moves, First, turned}
-use Rattle.simplex_logic.specs.Vectors.{at}
+use Rattle.simplex_logic.specs.Limits.{Stuck, Moves}
 use Rattle.simplex_table.specs.View.{delta_of, delta_at, deltas}
 use Rattle.simplex_core.specs.declared.bounds.Bound.{Bound}
 use Rattle.simplex_core.specs.declared.bounds.Range.{Range}
 use Rattle.simplex_core.specs.Ranges.{free, range_at, limit_of, limits_of, InRange}
-use Rattle.simplex_core.specs.Choosing.{IsViolated, IsFirstViolated, AreWithin, AllStuck}
+use Rattle.simplex_core.specs.Choosing.{IsViolated, IsFirstViolated, AreWithin}
 use Rattle.simplex_core.proofs.RangeLemmas.{past_end}
 
 -- ---- the sign of a delta_of

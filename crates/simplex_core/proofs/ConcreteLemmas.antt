@@ -1,19 +1,19 @@
 -- The step that takes the place of the infinitesimal, bound by bound.
-use Rattle.std.proofs.Common.{◌≡◌, ◌≢◌, ℕ, zero, suc, ◌+◌, ◌<◌, ◌≤◌, Bool, true, false, cond, List, [], ◌∷◌, ◌++◌, ◌⊎◌, inl, inr, length, get_or, take, Option, Some, None, Result, Ok, Err, pos, refl, sym, ap, ◌∙◌, subst, arith}
+use Rattle.std.proofs.Common.{◌≡◌, ◌≢◌, ℕ, zero, suc, ◌+◌, ◌<◌, Bool, true, false, cond, List, [], ◌∷◌, ◌++◌, ◌⊎◌, inl, inr, length, get_or, take, Option, Some, None, Result, Ok, Err, pos, refl, sym, ap, ◌∙◌, subst, arith}
 use Rattle.std.specs.Prelude.{Contains, IfOk}
 use Rattle.std.proofs.lemmas.List.{take_more}
 use Rattle.std.proofs.lemmas.List.Elements.{Contains-append_cases, Contains-append_left, Contains-append_right}
 use Rattle.rationals.specs.Rational.{ℚ, zero_ℚ, one_ℚ, ◌+ℚ◌, ◌*ℚ◌, ◌-ℚ◌, neg_ℚ, ◌<ℚ◌, ◌≤ℚ◌}
 use Rattle.rationals.specs.Delta.{Delta, ◌≤Δ◌}
-use Rattle.rationals.proofs.Ring.{var, con, ◌⊕◌, ◌⊗◌, ◌⊝◌, minus}
+use Rattle.rationals.proofs.Ring.{var, con, ◌⊝◌, minus}
 use Rattle.rationals.proofs.RingQ.{coef, ring-ℚ}
-use Rattle.rationals.proofs.Linear.{◌≼◌, ◌≺◌}
+use Rattle.rationals.proofs.Linear.{◌≺◌}
 use Rattle.rationals.proofs.OrderQ as O
 use Rattle.rationals.proofs.OrderQ.{signs_ℚ}
 use Rattle.rationals.proofs.Finder.{lin_le, lin_lt}
 use Rattle.fraction128.specs.declared.infinitesimal.Delta.{Delta as Fractions}
 use Rattle.fraction128.specs.declared.errors.Wide.{Wide}
-use Rattle.simplex_logic.specs.Concretes.{Allows, at_step, quotient}
+use Rattle.simplex_logic.specs.Concretes.{Allows, at_step}
 use Rattle.simplex_logic.proofs.Concrete.{quotient_positive, smaller_allows, within_quotient, any_allows}
 use Rattle.simplex_table.specs.View.{delta_of, delta_at}
 use Rattle.simplex_core.specs.declared.bounds.Bound.{Bound}

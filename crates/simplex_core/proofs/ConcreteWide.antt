@@ -1,9 +1,9 @@
 -- The operands of the concrete values are numbers of the problem, and the values meet its rows and bounds.
-use Rattle.std.proofs.Common.{◌≡◌, ◌≢◌, ℕ, zero, suc, ◌+◌, ◌<◌, ◌≤◌, Bool, true, false, List, [], ◌∷◌, ◌++◌, ◌⊎◌, inl, inr, length, get_or, take, map, Option, Some, None, pos, refl, sym, ap, ◌∙◌, subst, arith}
+use Rattle.std.proofs.Common.{◌≡◌, ◌≢◌, ℕ, zero, suc, ◌<◌, Bool, true, false, List, [], ◌∷◌, ◌⊎◌, inl, inr, length, get_or, map, Some, pos, refl, sym, ap, ◌∙◌, subst, arith}
 use Rattle.std.specs.Prelude.{Contains}
 use Rattle.std.proofs.lemmas.List.{length-map, take_all}
 use Rattle.rationals.specs.Rational.{ℚ, zero_ℚ, one_ℚ, ◌+ℚ◌, ◌*ℚ◌, ◌-ℚ◌, ◌<ℚ◌, ◌≤ℚ◌}
-use Rattle.rationals.specs.Delta.{Delta, of_ℚ, ◌≤Δ◌}
+use Rattle.rationals.specs.Delta.{Delta, of_ℚ}
 use Rattle.rationals.proofs.Ring.{var, con, ◌⊕◌, ◌⊗◌, ◌⊝◌}
 use Rattle.rationals.proofs.RingQ as Q
 use Rattle.rationals.proofs.RingQ.{coef, ring-ℚ}
@@ -13,7 +13,7 @@ use Rattle.rationals.proofs.OrderQ.{signs_ℚ}
 use Rattle.rationals.proofs.Finder.{lin_le, lin_lt}
 use Rattle.fraction128.specs.declared.infinitesimal.Delta.{Delta as Fractions}
 use Rattle.fraction128.specs.declared.errors.Wide.{Wide}
-use Rattle.simplex_logic.specs.Forms.{Form, Rows, row_of, Solves, reals, infs, value, Below}
+use Rattle.simplex_logic.specs.Forms.{Form, row_of, Solves, reals, infs, value}
 use Rattle.simplex_logic.specs.Vectors.{at, dot, read, part, parts}
 use Rattle.simplex_logic.specs.Concretes.{at_step}
 use Rattle.simplex_logic.specs.Quantities.{Expression, In, Vertex, Value, bound, corner, Step, Quantity, one_is, stands_at, vertex_sum, difference, step_is, step_product}
@@ -23,10 +23,10 @@ use Rattle.simplex_logic.proofs.Quantity.{tabled_expression}
 use Rattle.simplex_table.specs.View.{State, Sound, row_at, delta_of, delta_at}
 use Rattle.simplex_table.specs.Causes.{op_fits}
 use Rattle.simplex_core.specs.declared.bounds.Bound.{Bound}
-use Rattle.simplex_core.specs.Ranges.{OnSide, Holds}
+use Rattle.simplex_core.specs.Ranges.{OnSide}
 use Rattle.simplex_core.specs.Wides.{values_of, Known}
 use Rattle.simplex_core.specs.Solving.{IsFound}
-use Rattle.simplex_core.specs.Concrete.{WideOn, IsDifferenceWide, IsLargest, IsStepWide, reals_apart, infs_apart, divided, low_of, high_of, low_at, high_at, IsStepOf, is_one, is_largest, IsCommonStep, IsBoundWide, IsValueWide, product_wide, sum_wide, AreConcrete, IsSomeValueWide, OnSide_ℚ, IsPlain, IsConcrete}
+use Rattle.simplex_core.specs.Concrete.{WideOn, IsLargest, IsStepWide, reals_apart, infs_apart, divided, low_of, high_of, low_at, high_at, IsStepOf, is_one, is_largest, IsCommonStep, IsBoundWide, IsValueWide, product_wide, sum_wide, AreConcrete, IsSomeValueWide, OnSide_ℚ, IsConcrete}
 use Rattle.simplex_core.proofs.TurnLemmas.{value_listed}
 use Rattle.simplex_core.proofs.ConcreteLemmas.{side_le, le_of_lt}
 

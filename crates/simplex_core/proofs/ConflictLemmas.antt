@@ -1,29 +1,28 @@
 -- The conflict of a row that no column repairs, and that of two bounds of one variable.
-use Rattle.std.proofs.Common.{◌≡◌, ◌≢◌, ℕ, zero, suc, ◌+◌, ◌<◌, ◌≤◌, Bool, true, false, List, [], ◌∷◌, ◌++◌, ◌⊎◌, inl, inr, length, get_or, take, Option, Some, None, pos, refl, sym, ap, ◌∙◌, subst, arith, length-append}
-use Rattle.std.specs.Prelude.{not, Contains, IfSome, IfNone}
-use Rattle.std.proofs.lemmas.List.{take_more, take_all, length-take, get_or_read}
+use Rattle.std.proofs.Common.{◌≡◌, ℕ, suc, ◌+◌, ◌<◌, ◌≤◌, Bool, true, false, List, [], ◌∷◌, ◌++◌, inl, inr, length, get_or, take, Option, Some, None, pos, refl, sym, ap, ◌∙◌, subst, arith}
+use Rattle.std.specs.Prelude.{not, Contains, IfSome}
+use Rattle.std.proofs.lemmas.List.{take_more, take_all, length-take}
 use Rattle.rationals.specs.Rational.{ℚ, zero_ℚ, one_ℚ, neg_ℚ, ◌+ℚ◌, ◌*ℚ◌, ◌<ℚ◌}
 use Rattle.rationals.specs.Delta.{Delta, d_add, d_neg, of_ℚ, ◌≤Δ◌, ◌<Δ◌}
 use Rattle.rationals.proofs.Ring.{ring, var, con, ◌⊕◌, ◌⊗◌, minus}
 use Rattle.rationals.proofs.RingQ.{coef, ring-ℚ}
-use Rattle.rationals.proofs.Linear.{◌≼◌, ◌≺◌, ◌≈◌}
+use Rattle.rationals.proofs.Linear.{◌≼◌, ◌≺◌}
 use Rattle.rationals.proofs.OrderQ as O
 use Rattle.rationals.proofs.Delta as D
 use Rattle.rationals.proofs.Delta.{signs_Δ}
-use Rattle.rationals.proofs.Finder.{lin_le, lin_lt, lin_false}
-use Rattle.simplex_logic.specs.Forms.{Rows, Solves, Solves_Δ}
+use Rattle.rationals.proofs.Finder.{lin_le, lin_lt}
+use Rattle.simplex_logic.specs.Forms.{Rows, Solves_Δ}
 use Rattle.simplex_logic.specs.Tables.{Tabled}
 use Rattle.simplex_logic.specs.Limits.{Limits, Stuck, Full, Empty, turned}
 use Rattle.simplex_logic.specs.Vectors.{at}
 use Rattle.simplex_logic.specs.Contradictions.{Part, times, Contradiction, Meets, side_Δ, Stop, stop_none, stop_high, stop_low, Stops, first_part}
-use Rattle.simplex_logic.proofs.Bland.{weighted, of_neg, le_self}
+use Rattle.simplex_logic.proofs.Bland.{weighted, of_neg}
 use Rattle.simplex_logic.proofs.Step.{turned_row, row_value}
 use Rattle.simplex_logic.proofs.Certificate.{refuted, contradiction_up, contradiction_down}
 use Rattle.simplex_table.specs.View.{delta_of}
 use Rattle.simplex_core.specs.declared.bounds.Bound.{Bound}
 use Rattle.simplex_core.specs.declared.bounds.Range.{Range}
 use Rattle.simplex_core.specs.Ranges.{range_at, limit_of, limits_of, OnSide, Holds, Ranged, Crosses}
-use Rattle.simplex_core.specs.Choosing.{AllStuck}
 use Rattle.simplex_core.specs.Conflicts.{Named, Names, IsConflict, HasTag, ConflictsRefute, IsStop, no_stop, open_up, open_low, Certificate, Certifies, CertifiesTo, IsPair}
 use Rattle.simplex_core.specs.Conflicts as C
 

@@ -3,18 +3,17 @@ use Rattle.std.proofs.Common.{◌≡◌, ℕ, zero, suc, ◌+◌, ◌<◌, ◌�
 use Rattle.std.specs.Prelude.{Contains, OnOk, OnErr, IsSome}
 use Rattle.std.proofs.lemmas.List.{take-append-le, length-take, length-append, get_or_append_left}
 use Rattle.std.proofs.lemmas.List.Elements.{Contains-append_cases}
-use Rattle.rationals.specs.Rational.{ℚ, zero_ℚ}
+use Rattle.rationals.specs.Rational.{zero_ℚ}
 use Rattle.rationals.specs.Delta.{Delta, of_ℚ}
 use Rattle.fraction128.specs.declared.infinitesimal.Delta.{Delta as Fractions}
-use Rattle.simplex_logic.specs.Forms.{Form, row_of, Solves, reals, infs, value, Below}
+use Rattle.simplex_logic.specs.Forms.{Form, row_of, Below}
 use Rattle.simplex_logic.specs.Quantities.{In}
 use Rattle.simplex_core.specs.Wides.{values_of}
-use Rattle.simplex_table.specs.View.{State, delta_at, deltas}
+use Rattle.simplex_table.specs.View.{State, delta_at}
 use Rattle.simplex_core.specs.declared.bounds.Bound.{Bound}
 use Rattle.simplex_core.specs.Content.{Content}
 use Rattle.simplex_core.specs.Inside.{saved_of, Rising}
 use Rattle.simplex_core.specs.Solving.{IsFound}
-use Rattle.simplex_core.proofs.TurnLemmas.{no_false}
 
 -- ---- bounds of variables that there are
 pub known_more : (bounds : List Bound) (n m : ℕ) → n ≤ m → ((b : Bound) → Contains bounds b → b.variable < n) → (b : Bound) → Contains bounds b → b.variable < m

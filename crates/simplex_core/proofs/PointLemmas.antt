@@ -1,10 +1,8 @@
 -- Lists of values, by variable and by column.
-use Rattle.std.proofs.Common.{◌≡◌, ℕ, zero, suc, ◌+◌, ◌<◌, ◌≤◌, Bool, List, [], ◌∷◌, ◌++◌, ◌⊎◌, inl, inr, length, get_or, set, take, refl, sym, ap, ◌∙◌, subst, arith}
-use Rattle.std.proofs.lemmas.List.{take_more, take_all, length-take, length-append, get_or_append_left}
-use Rattle.rationals.specs.Rational.{zero_ℚ}
-use Rattle.rationals.specs.Delta.{Delta, of_ℚ}
+use Rattle.std.proofs.Common.{◌≡◌, ℕ, zero, suc, ◌+◌, ◌<◌, List, [], ◌∷◌, ◌++◌, ◌⊎◌, inl, inr, length, get_or, set, take, refl, sym, ap, ◌∙◌, subst, arith}
+use Rattle.std.proofs.lemmas.List.{take_more, length-append, get_or_append_left}
 use Rattle.fraction128.specs.declared.infinitesimal.Delta.{Delta as Fractions}
-use Rattle.simplex_table.specs.View.{delta_of, delta_at, deltas}
+use Rattle.simplex_table.specs.View.{delta_of, delta_at}
 use Rattle.simplex_core.specs.declared.bounds.Range.{Range}
 use Rattle.simplex_core.specs.Ranges.{range_at, InRange, Stands}
 use Rattle.simplex_core.specs.Checking.{ArePoints, AreStarts}

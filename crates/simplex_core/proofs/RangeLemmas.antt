@@ -4,11 +4,9 @@ use native.Mathlib.Decide.{ℕ_discrete}
 use Rattle.std.proofs.lemmas.List.{get_or-set_same, get_or-set_other, take_more, length-set}
 use Rattle.std.proofs.lemmas.List.Elements.{Contains-append_cases, Contains-append_left, Contains-append_right}
 use Rattle.std.specs.Prelude.{Contains}
-use Rattle.std.specs.declared.cmp.Ordering.{Ordering}
 use Rattle.std.specs.declared.cmp.Ordering.TheVariants.{Less, Equal, Greater}
 use Rattle.std.specs.Ordering.{MatchOrdering}
-use Rattle.rationals.specs.Rational.{zero_ℚ}
-use Rattle.rationals.specs.Delta.{Delta, of_ℚ, ◌≤Δ◌, ◌<Δ◌, cmp_Δ}
+use Rattle.rationals.specs.Delta.{Delta, ◌≤Δ◌, ◌<Δ◌, cmp_Δ}
 use Rattle.rationals.proofs.Delta as D
 use Rattle.simplex_logic.specs.Limits.{AtLeast, AtMost}
 use Rattle.simplex_logic.proofs.Bland.{le_self}

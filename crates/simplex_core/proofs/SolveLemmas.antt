@@ -1,21 +1,19 @@
 -- The first turn of a check, and what the last one leaves.
-use Rattle.std.proofs.Common.{◌≡◌, ℕ, ◌+◌, ◌<◌, ◌≤◌, Bool, true, false, List, [], ◌∷◌, ◌++◌, ◌⊎◌, inl, inr, length, get_or, Option, Some, None, refl, sym, ap, ◌∙◌, subst, arith}
+use Rattle.std.proofs.Common.{◌≡◌, ℕ, ◌<◌, Bool, false, List, length, get_or, Option, Some, None, sym, ◌∙◌, subst, arith}
 use Rattle.std.specs.Prelude.{replicate}
 use Rattle.std.proofs.lemmas.List.{length-map, length-replicate}
 use Rattle.rationals.specs.Rational.{ℚ}
-use Rattle.rationals.specs.Delta.{Delta, of_ℚ}
 use Rattle.fraction128.specs.declared.infinitesimal.Delta.{Delta as Fractions}
-use Rattle.simplex_logic.specs.Forms.{Form, row_of}
-use Rattle.simplex_logic.specs.Pivoting.{Going}
+use Rattle.simplex_logic.specs.Forms.{row_of}
 use Rattle.simplex_logic.proofs.Going.{anew_solves, anew_column}
 use Rattle.simplex_table.specs.View.{State, Sound, AreValues, row_at, delta_of, delta_at, deltas}
 use Rattle.simplex_core.specs.declared.bounds.Bound.{Bound}
 use Rattle.simplex_core.specs.declared.bounds.Range.{Range}
 use Rattle.simplex_core.specs.declared.wide.WideAt.{WideAt}
-use Rattle.simplex_core.specs.Ranges.{range_at, limits_of, InRange, IsStraight, Stands, Ranged}
+use Rattle.simplex_core.specs.Ranges.{range_at, InRange, IsStraight, Stands, Ranged}
 use Rattle.simplex_core.specs.Wides.{IsWide, Known}
-use Rattle.simplex_core.specs.Checking.{AreStarts, OwnBounds, Turning, mark_at, IsEnd, IsWideIn, IsWideAtVertex}
-use Rattle.simplex_core.specs.Solving.{IsFound, IsSolved}
+use Rattle.simplex_core.specs.Checking.{AreStarts, OwnBounds, Turning, IsEnd, IsWideAtVertex}
+use Rattle.simplex_core.specs.Solving.{IsSolved}
 use Rattle.simplex_core.proofs.MarkLemmas.{none_marked}
 use Rattle.simplex_core.proofs.TurnLemmas.{no_false, within_of, stands_listed, vertex_of}
 

@@ -1,18 +1,18 @@
 -- A turn of the check: from what was found to what holds at the next turn.
-use Rattle.std.proofs.Common.{◌≡◌, ◌≢◌, ℕ, zero, suc, ◌+◌, ◌<◌, ◌≤◌, Bool, true, false, List, [], ◌∷◌, ◌++◌, ◌⊎◌, inl, inr, length, get_or, set, Option, Some, None, refl, sym, ap, ◌∙◌, subst, arith}
+use Rattle.std.proofs.Common.{◌≡◌, ◌≢◌, ℕ, zero, suc, ◌<◌, Bool, true, false, List, [], ◌∷◌, ◌⊎◌, inl, inr, length, get_or, set, Option, Some, None, refl, sym, ap, ◌∙◌, subst, arith}
 use native.Mathlib.Decide.{ℕ_discrete}
-use Rattle.std.specs.Prelude.{not, Contains, map}
+use Rattle.std.specs.Prelude.{not, Contains}
 use Rattle.std.proofs.lemmas.List.{length-map}
 use Rattle.rationals.specs.Rational.{ℚ, zero_ℚ, neg_ℚ, ◌<ℚ◌}
-use Rattle.rationals.specs.Delta.{Delta, of_ℚ, ◌≤Δ◌, ◌<Δ◌}
+use Rattle.rationals.specs.Delta.{Delta, of_ℚ}
 use Rattle.rationals.proofs.OrderQ as O
 use Rattle.rationals.proofs.Delta as D
 use Rattle.fraction128.specs.declared.infinitesimal.Delta.{Delta as Fractions}
-use Rattle.simplex_logic.specs.Forms.{Form, Rows, Solves_Δ, row_of}
-use Rattle.simplex_logic.specs.Vectors.{at, value_at}
+use Rattle.simplex_logic.specs.Forms.{Form, row_of}
+use Rattle.simplex_logic.specs.Vectors.{value_at}
 use Rattle.simplex_logic.specs.Tables.{Tabled, is_column}
-use Rattle.simplex_logic.specs.Limits.{Limits, Within, AtLeast, AtMost, Under, Over, Beyond, under, over, Violates, Stuck, Moves, rises, falls, First, Found, turned}
-use Rattle.simplex_logic.specs.Pivoting.{Going, Remembered, measure}
+use Rattle.simplex_logic.specs.Limits.{Limits, Within, AtLeast, AtMost, Under, Over, Beyond, under, over, Violates, Moves, rises, falls, First, Found, turned}
+use Rattle.simplex_logic.specs.Pivoting.{Going, measure}
 use Rattle.simplex_logic.specs.Quantities.{Vertex, In}
 use Rattle.simplex_logic.proofs.Bland.{under_least, over_most, le_self}
 use Rattle.simplex_logic.proofs.Pivot.{get_here_ℕ, get_set_ℕ}

@@ -1,5 +1,5 @@
 -- Operations that are too wide, as a simplex answers them.
-use Rattle.std.proofs.Common.{◌≡◌, ℕ, ◌<◌, false, List, length, Option, refl, sym, ap, ◌∙◌, subst}
+use Rattle.std.proofs.Common.{◌≡◌, ◌<◌, false, List, length, sym, subst}
 use Rattle.rationals.specs.Delta.{Delta}
 use Rattle.fraction128.specs.declared.errors.Wide.{Wide}
 use Rattle.simplex_logic.specs.Forms.{Form, row_of}
@@ -8,7 +8,6 @@ use Rattle.simplex_table.specs.View.{State, Sound, WideIn, row_at}
 use Rattle.simplex_table.specs.Causes.{OnWide, op_fits}
 use Rattle.simplex_table.specs.declared.error.TableauError.{TableauError}
 use Rattle.simplex_core.specs.declared.bounds.Bound.{Bound}
-use Rattle.simplex_core.specs.declared.bounds.Range.{Range}
 use Rattle.simplex_core.specs.declared.wide.WideAt.{WideAt}
 use Rattle.simplex_core.specs.declared.wide.Stop.{Stop}
 use Rattle.simplex_core.specs.declared.wide.Stop.TheVariants.{Wide as WideStop, NoMemory as MemoryStop}
@@ -16,12 +15,11 @@ use Rattle.std.specs.Prelude.{Contains}
 use Rattle.rationals.specs.Rational.{ℚ}
 use Rattle.fraction128.specs.declared.infinitesimal.Delta.{Delta as Fractions}
 use Rattle.simplex_logic.proofs.Quantity.{tabled_basis}
-use Rattle.simplex_core.specs.Ranges.{Ranged}
 use Rattle.simplex_core.specs.Solving.{IsFound}
 use Rattle.simplex_core.specs.Concrete.{IsBoundWide, IsSomeValueWide, IsStepOf}
 use Rattle.simplex_core.proofs.ConcreteWide.{bound_operands, value_operands}
 use Rattle.simplex_core.specs.Wides.{values_of, IsWide, OnStop, StopsIn, ErrorStopsIn, Known, KnownOr}
-use Rattle.simplex_core.specs.Checking.{IsWideAtVertex, IsWideAnyway, IsWideIn}
+use Rattle.simplex_core.specs.Checking.{IsWideAtVertex, IsWideAnyway}
 
 pub wide_of : (s : State) (handed : Form → Type 0) (bounds : List Bound) (w : WideAt) → w.basis ≡ s.columns → WideIn s handed (values_of bounds) w.wide → IsWide s.rows handed bounds w
 wide_of s handed bounds w e h = record {

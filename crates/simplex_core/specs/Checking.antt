@@ -1,13 +1,13 @@
 -- What a check keeps from turn to turn, and what a turn does.
 use Rattle.std.specs.Prelude.{◌≡◌, ℕ, zero, suc, ◌<◌, Bool, true, false, List, [], ◌∷◌, Option, None, Some, length, get_or, set, nat_lt}
-use Rattle.rationals.specs.Rational.{ℚ, zero_ℚ}
-use Rattle.rationals.specs.Delta.{Delta, of_ℚ}
+use Rattle.rationals.specs.Rational.{ℚ}
+use Rattle.rationals.specs.Delta.{Delta}
 use Rattle.fraction128.specs.declared.infinitesimal.Delta.{Delta as Fractions}
 use Rattle.simplex_logic.specs.Forms.{Form, row_of}
 use Rattle.simplex_logic.specs.Tables.{is_column}
 use Rattle.simplex_logic.specs.Pivoting.{Going, measure}
 use Rattle.simplex_logic.specs.Quantities.{Vertex}
-use Rattle.simplex_table.specs.View.{State, row_at, deltas, delta_of, delta_at}
+use Rattle.simplex_table.specs.View.{State, row_at, delta_at}
 use Rattle.simplex_core.specs.declared.bounds.Bound.{Bound}
 use Rattle.simplex_core.specs.declared.bounds.Range.{Range}
 use Rattle.simplex_core.specs.declared.checking.Turn.{Turn}

@@ -1,6 +1,6 @@
 -- What a turn of the check looks for: a variable beyond a limit, and a column that can move.
-use Rattle.std.specs.Prelude.{◌≡◌, ℕ, ◌<◌, Bool, List, Option, Some, length, get_or}
-use Rattle.rationals.specs.Rational.{ℚ, zero_ℚ}
+use Rattle.std.specs.Prelude.{◌≡◌, ℕ, ◌<◌, Bool, List, Some, length, get_or}
+use Rattle.rationals.specs.Rational.{ℚ}
 use Rattle.rationals.specs.Delta.{Delta, ◌<Δ◌}
 use Rattle.fraction128.specs.declared.infinitesimal.Delta.{Delta as Fractions}
 use Rattle.simplex_logic.specs.Limits.{Limits, Stuck, turned}

@@ -1,7 +1,7 @@
 -- Bounds whose multiples add up to a contradiction, named by their tags.
-use Rattle.std.specs.Prelude.{◌≡◌, ◌⊎◌, ℕ, ◌<◌, Bool, true, false, not, List, [], ◌∷◌, Option, Some, None, length, get_or, take, Contains}
+use Rattle.std.specs.Prelude.{◌≡◌, ◌⊎◌, ℕ, not, List, [], ◌∷◌, Option, Some, None, take, Contains}
 use Rattle.rationals.specs.Rational.{ℚ, zero_ℚ, one_ℚ, neg_ℚ, ◌<ℚ◌}
-use Rattle.rationals.specs.Delta.{Delta, ◌≤Δ◌}
+use Rattle.rationals.specs.Delta.{Delta}
 use Rattle.simplex_logic.specs.Forms.{Rows, Solves_Δ}
 use Rattle.simplex_logic.specs.Limits.{Limits}
 use Rattle.simplex_logic.specs.Contradictions.{Part, Contradiction, Stops, first_part}

@@ -1,5 +1,5 @@
 -- A simplex as contracts see it.
-use Rattle.std.specs.Prelude.{◌≡◌, ℕ, ◌<◌, List, Option, length, slice_index_or, Contains}
+use Rattle.std.specs.Prelude.{ℕ, List, Option, slice_index_or, Contains}
 use Rattle.rationals.specs.Rational.{zero_ℚ}
 use Rattle.rationals.specs.Delta.{Delta, of_ℚ}
 use Rattle.simplex_logic.specs.Forms.{Form, row_of, Solves_Δ}

@@ -1,7 +1,7 @@
 -- The range that bounds leave to each variable.
-use Rattle.std.specs.Prelude.{◌≡◌, ℕ, ◌<◌, Bool, true, false, List, Option, Some, None, length, Contains, slice_index_or, ◌⊎◌}
+use Rattle.std.specs.Prelude.{◌≡◌, ℕ, Bool, true, false, List, Option, Some, None, length, Contains, slice_index_or}
 use Rattle.rationals.specs.Rational.{zero_ℚ}
-use Rattle.rationals.specs.Delta.{Delta, delta, of_ℚ, ◌≤Δ◌, ◌<Δ◌}
+use Rattle.rationals.specs.Delta.{Delta, of_ℚ, ◌≤Δ◌, ◌<Δ◌}
 use Rattle.simplex_table.specs.View.{delta_of}
 use Rattle.simplex_logic.specs.Limits.{Limits, AtLeast, AtMost}
 use Rattle.simplex_core.specs.declared.bounds.Bound.{Bound}

@@ -1,7 +1,7 @@
 -- What a check leaves in a simplex.
-use Rattle.std.specs.Prelude.{◌≡◌, ◌⊎◌, ℕ, ◌<◌, ◌≤◌, List, Option, None, Some, length, get_or, Contains}
+use Rattle.std.specs.Prelude.{◌≡◌, ◌⊎◌, ℕ, ◌<◌, ◌≤◌, List, Option, None, Some, length, get_or}
 use Rattle.rationals.specs.Rational.{ℚ, zero_ℚ}
-use Rattle.rationals.specs.Delta.{Delta, of_ℚ}
+use Rattle.rationals.specs.Delta.{of_ℚ}
 use Rattle.fraction128.specs.declared.infinitesimal.Delta.{Delta as Fractions}
 use Rattle.simplex_logic.specs.Forms.{Form, row_of, Below}
 use Rattle.simplex_logic.specs.Quantities.{In}

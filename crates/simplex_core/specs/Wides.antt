@@ -1,5 +1,5 @@
 -- Operations that are too wide, with a basis by which their operands are numbers of the problem.
-use Rattle.std.specs.Prelude.{◌≡◌, ◌⊎◌, ℕ, false, List, [], ◌∷◌, Option, length, map, ⊤}
+use Rattle.std.specs.Prelude.{◌≡◌, ◌⊎◌, false, List, Option, length, map, ⊤}
 use Rattle.rationals.specs.Delta.{Delta}
 use Rattle.fraction128.specs.declared.errors.Wide.{Wide}
 use Rattle.simplex_logic.specs.Forms.{Form, row_of, IsRow}
@@ -7,7 +7,7 @@ use Rattle.simplex_logic.specs.Quantities.{Basis, Quantity}
 use Rattle.simplex_table.specs.View.{State, Sound, delta_of}
 use Rattle.simplex_table.specs.Causes.{op_fits}
 use Rattle.simplex_table.specs.declared.error.TableauError.{TableauError}
-use Rattle.simplex_table.specs.declared.error.TableauError.TheVariants.{Wide as TooWide, NoMemory}
+use Rattle.simplex_table.specs.declared.error.TableauError.TheVariants.{Wide as TooWide}
 use Rattle.simplex_core.specs.declared.bounds.Bound.{Bound}
 use Rattle.simplex_core.specs.declared.wide.WideAt.{WideAt}
 use Rattle.simplex_core.specs.declared.wide.Stop.{Stop}

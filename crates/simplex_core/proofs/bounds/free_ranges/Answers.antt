@@ -1,4 +1,4 @@
-use Rattle.simplex_core.proofs.RangeLemmas.{none_free, one_more_free}
+use Rattle.simplex_core.proofs.RangeLemmas.{one_more_free}
 use Rattle.simplex_core.proofs.bounds.free_ranges.Goals as goal
 
 pub loop-made-preserved : goal.loop-made-preserved

@@ -1,6 +1,5 @@
 -- so many ranges, none with bounds
-use Rattle.std.proofs.Common.{ℕ, ◌≡◌, length}
-use Rattle.simplex_core.specs.Ranges.{range_at, free, AllFree}
+use Rattle.simplex_core.specs.Ranges.{AllFree}
 use Rattle.simplex_core.proofs.bounds.free_ranges.Given as goal
 
 abbrev pub invariant-loop-made : goal.invariant-loop-made

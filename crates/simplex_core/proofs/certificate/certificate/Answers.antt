@@ -1,7 +1,7 @@
-use Rattle.std.proofs.Common.{◌≡◌, List, [], ◌∷◌, ◌++◌, ℕ, Option, Some, None, arith, get_or, length, ap, sym, subst, ◌∙◌, refl}
+use Rattle.std.proofs.Common.{◌≡◌, [], ◌∷◌, ◌++◌, arith, get_or, ap, sym, subst, ◌∙◌}
 use Rattle.std.proofs.lemmas.List.{get_or_read, append-nil}
 use Rattle.std.specs.Prelude.{not}
-use Rattle.rationals.specs.Rational.{ℚ, zero_ℚ}
+use Rattle.rationals.specs.Rational.{zero_ℚ}
 use Rattle.simplex_logic.specs.Limits.{turned}
 use Rattle.simplex_logic.specs.Vectors.{at}
 use Rattle.simplex_core.specs.Ranges.{range_at}

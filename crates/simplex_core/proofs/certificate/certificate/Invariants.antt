@@ -1,5 +1,4 @@
 -- the violated bound, and the bounds that stop the columns passed
-use Rattle.std.proofs.Common.{take}
 use Rattle.simplex_core.specs.Conflicts.{CertifiesTo}
 use Rattle.simplex_core.proofs.certificate.certificate.Given as goal
 

@@ -1,6 +1,5 @@
-use Rattle.std.proofs.Common.{◌≡◌, ℕ, Option, Some, ap, subst, sym}
+use Rattle.std.proofs.Common.{◌≡◌, Some, subst}
 use Rattle.std.specs.Prelude.{IfSome}
-use Rattle.rationals.specs.Rational.{ℚ}
 use Rattle.simplex_core.specs.declared.bounds.Bound.{Bound}
 use Rattle.simplex_core.proofs.ConflictLemmas.{stop_up_is, stop_low_is}
 use Rattle.simplex_core.proofs.certificate.stop_of.Goals as goal

@@ -1,8 +1,6 @@
 use Rattle.std.proofs.Common.{◌≡◌, ◌<◌, List, Option, length, set, sym, ap, ◌∙◌, subst, arith, get_or}
 use Rattle.std.proofs.lemmas.Result.{err_from_is_err_and}
 use Rattle.std.specs.Prelude.{not}
-use Rattle.simplex_logic.specs.Limits.{turned}
-use Rattle.simplex_core.specs.Ranges.{limits_of}
 use Rattle.simplex_core.proofs.TurnLemmas.{found_is, is_basic, entry_moves, turned_on, turn_falls, points_stand, vertex_of}
 use Rattle.simplex_core.proofs.WideLemmas.{on_stop}
 use Rattle.simplex_logic.specs.Forms.{Form}

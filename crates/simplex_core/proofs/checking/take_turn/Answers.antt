@@ -1,6 +1,6 @@
 use Rattle.std.proofs.Common.{ap, sym, ◌∙◌, subst, length}
 use Rattle.std.specs.Prelude.{not}
-use Rattle.simplex_table.specs.View.{row_at, delta_at}
+use Rattle.simplex_table.specs.View.{delta_at}
 use Rattle.simplex_core.specs.Ranges.{limits_of}
 use Rattle.simplex_core.specs.Choosing.{IsFirstViolated, AllStuck}
 use Rattle.simplex_core.proofs.TurnLemmas.{violated_below, turn_conflict}

@@ -1,9 +1,8 @@
-use Rattle.std.proofs.Common.{◌≡◌, ◌<◌, length, get_or, arith, sym, ap, ◌∙◌, subst, below_more}
+use Rattle.std.proofs.Common.{◌≡◌, get_or, arith, ap, ◌∙◌, below_more}
 use Rattle.std.proofs.lemmas.List.{get_or_read}
 use Rattle.rationals.specs.Rational.{zero_ℚ}
-use Rattle.simplex_logic.specs.Limits.{turned, Stuck, Moves}
+use Rattle.simplex_logic.specs.Limits.{turned}
 use Rattle.simplex_logic.specs.Vectors.{at}
-use Rattle.simplex_core.specs.Ranges.{limits_of}
 use Rattle.simplex_core.proofs.ChoiceLemmas.{stuck_at, moves_at}
 use Rattle.simplex_core.proofs.choice.first_moving.Goals as goal
 

@@ -1,7 +1,6 @@
 use Rattle.std.proofs.Common.{arith}
 use Rattle.std.proofs.lemmas.Int.{ints}
 use Rattle.rationals.proofs.OrderQ.{lt_num}
-use Rattle.simplex_table.specs.View.{delta_of}
 use Rattle.simplex_core.proofs.ChoiceLemmas.{negative_num, zero_num}
 use Rattle.simplex_core.proofs.choice.sign.Goals as goal
 

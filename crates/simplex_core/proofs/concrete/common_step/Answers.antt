@@ -1,4 +1,4 @@
-use Rattle.std.proofs.Common.{subst, sym, arith}
+use Rattle.std.proofs.Common.{subst, arith}
 use Rattle.simplex_core.specs.Concrete.{IsStepWide, low_of, high_of}
 use Rattle.simplex_table.specs.View.{delta_of}
 use Rattle.simplex_core.proofs.RangeLemmas.{listed_at}

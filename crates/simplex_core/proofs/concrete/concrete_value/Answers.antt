@@ -1,5 +1,4 @@
-use Rattle.std.proofs.Common.{◌≡◌}
-use Rattle.rationals.specs.Rational.{◌+ℚ◌, ◌*ℚ◌}
+use Rattle.rationals.specs.Rational.{◌*ℚ◌}
 use Rattle.fraction128.specs.Exact.{fits, sum_fits}
 use Rattle.simplex_table.specs.View.{delta_of}
 use Rattle.simplex_core.proofs.ConcreteLemmas.{ok_is, concrete_sum}

@@ -1,11 +1,11 @@
-use Rattle.std.proofs.Common.{◌≡◌, ℕ, sym, ap, ◌∙◌, subst, length, List, Bool, false, Option}
+use Rattle.std.proofs.Common.{◌≡◌, ℕ, sym, ap, ◌∙◌, subst, length, false}
 use Rattle.std.specs.Prelude.{replicate}
 use Rattle.std.proofs.lemmas.Result.{err_from_is_err_and}
-use Rattle.simplex_logic.specs.Forms.{Form, row_of}
+use Rattle.simplex_logic.specs.Forms.{row_of}
 use Rattle.simplex_table.specs.View.{deltas, AreValues}
 use Rattle.simplex_core.specs.Ranges.{Ranged, Crosses, IsStraight, range_at}
 use Rattle.simplex_core.specs.Wides.{OnStop, IsWide, Known}
-use Rattle.simplex_core.specs.Checking.{AreStarts, IsWideAtVertex, IsWideIn, Turning, IsEnd}
+use Rattle.simplex_core.specs.Checking.{AreStarts, IsWideAtVertex, IsWideIn, Turning}
 use Rattle.simplex_core.proofs.WideLemmas.{on_stop}
 use Rattle.simplex_core.proofs.ConflictLemmas.{pair_conflict}
 use Rattle.simplex_core.proofs.SolveLemmas.{start_turning, solved_of, start_wide}

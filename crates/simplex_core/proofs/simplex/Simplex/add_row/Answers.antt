@@ -1,8 +1,7 @@
-use Rattle.std.proofs.Common.{◌≡◌, ◌≤◌, ap, sym, ◌∙◌, ◌∷◌, [], Some, List, subst, length, length-append, arith}
-use Rattle.rationals.specs.Delta.{Delta}
-use Rattle.simplex_table.specs.View.{State, form_of, WideIn}
+use Rattle.std.proofs.Common.{◌≤◌, ap, ◌∷◌, [], Some, subst, length, length-append, arith}
+use Rattle.simplex_table.specs.View.{form_of}
 use Rattle.simplex_core.specs.Content.{Content}
-use Rattle.simplex_core.specs.Wides.{OnStop, IsWide, KnownOr, values_of}
+use Rattle.simplex_core.specs.Wides.{OnStop, IsWide, KnownOr}
 use Rattle.simplex_core.proofs.TurnLemmas.{no_false}
 use Rattle.simplex_core.proofs.ContentLemmas.{known_more}
 use Rattle.simplex_core.proofs.WideLemmas.{row_stops}

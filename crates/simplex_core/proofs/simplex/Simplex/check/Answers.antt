@@ -1,4 +1,4 @@
-use Rattle.std.proofs.Common.{◌≡◌, ◌<◌, List, length, None, Option, sym, subst, ap, ◌∙◌, refl}
+use Rattle.std.proofs.Common.{◌<◌, length, sym, subst}
 use Rattle.simplex_core.specs.Solving.{IsFound, IsSolved}
 use Rattle.simplex_core.proofs.TurnLemmas.{no_false}
 use Rattle.simplex_core.proofs.ContentLemmas.{known_rows}

@@ -1,8 +1,7 @@
-use Rattle.std.proofs.Common.{◌≡◌, ◌<◌, List, Option, length, true, sym, subst, ap, ◌∙◌}
-use Rattle.std.specs.Prelude.{Contains, IsSome}
+use Rattle.std.proofs.Common.{length, sym, subst}
+use Rattle.std.specs.Prelude.{IsSome}
 use Rattle.simplex_table.specs.View.{deltas}
 use Rattle.simplex_table.specs.Causes.{OnWide}
-use Rattle.simplex_core.specs.declared.bounds.Bound.{Bound}
 use Rattle.simplex_core.specs.Content.{Content}
 use Rattle.simplex_core.specs.Wides.{OnStop, IsWide, Known}
 use Rattle.simplex_core.specs.Solving.{IsFound}

@@ -1,4 +1,4 @@
-use Rattle.std.proofs.Common.{◌≡◌, ◌<◌, ◌≤◌, ◌++◌, ◌∷◌, [], List, None, ap, sym, ◌∙◌, subst, length, length-append, arith}
+use Rattle.std.proofs.Common.{◌≡◌, ◌<◌, ◌≤◌, ◌++◌, ◌∷◌, [], List, None, ap, sym, subst, length, length-append, arith}
 use Rattle.simplex_core.specs.declared.bounds.Bound.{Bound}
 use Rattle.simplex_core.specs.Content.{Content}
 use Rattle.simplex_core.specs.Inside.{saved_of, Rising}
