@@ -7,7 +7,6 @@ mod scripts;
 use crate::run::run;
 use crate::tests::faults::FAULTS;
 use crate::tests::scripts::SCRIPTS;
-use std::alloc::Global;
 use std::process::Abort;
 use std::test::Fail;
 use y_io::{Failed, FailingSink, FailingSource, FileName, MemorySink, MemorySource, Source};
@@ -141,41 +140,16 @@ fn a_read_fails(rt: HostRuntime) -> Result<(), Fail> {
     Ok(())
 }
 
-// So many times that part, behind the front.
-fn repeated(alloc: Global, front: &str, part: &str, count: usize) -> Result<String, Fail> {
-    let mut text = String::from_str(alloc, front)?;
-    for _ in 0..count {
-        text.push_str(part)?;
-    }
-    Ok(text)
-}
-
 #[test]
-fn limits_are_kept(rt: HostRuntime) -> Result<(), Fail> {
-    for (front, part, count, status, line) in [
-        (
-            "(assert ",
-            "(not ",
-            4096,
-            23,
-            "yices: <stdin>:1:20484: too long: nesting\n",
-        ),
-        (
-            "(assert ",
-            "(not ",
-            4095,
-            17,
-            "yices: <stdin>:1:20484: syntax EndOfInput\n",
-        ),
-        (
-            "        ",
-            "(push)",
-            65537,
-            20,
-            "yices: <stdin>:1:393225: refused 16 TooDeep\n",
-        ),
+fn open_brackets_are_limited(rt: HostRuntime) -> Result<(), Fail> {
+    for (count, status, line) in [
+        (4095, 17, "yices: <stdin>:1:20484: syntax EndOfInput\n"),
+        (4096, 23, "yices: <stdin>:1:20484: too long: nesting\n"),
     ] {
-        let text = repeated(rt.alloc(), front, part, count)?;
+        let mut text = String::from_str(rt.alloc(), "(assert ")?;
+        for _ in 0..count {
+            text.push_str("(not ")?;
+        }
         expect_run(&rt, text.as_str(), 1000000, status, "", line)?;
     }
     Ok(())
