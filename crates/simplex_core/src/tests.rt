@@ -81,46 +81,414 @@ fn strictly_between(rt: HostRuntime) -> Result<(), Fail> {
     Ok(())
 }
 
-// The system that cycles under the rule of the largest coefficient (Beale): the largest value of z is 1/20.
+// Systems with their answers: how many variables there are, the terms of each row, the bounds (a variable, whether it is an
+// upper bound, and numerator, denominator and infinitesimals of the number), and the answer. Rows are numbered after the
+// variables. The last eight are four systems that cycle under the rule of the largest coefficient (Beale's, Chvátal's, Kuhn's,
+// and Marshall's and Suurballe's), each with the largest value of its last row, and with more.
+const SYSTEMS: [(
+    usize,
+    &[&[(usize, i128)]],
+    &[(usize, bool, (i128, i128, i128))],
+    &str,
+); 28] = [
+    (0, &[], &[], "feasible"),
+    (1, &[], &[], "feasible"),
+    (
+        1,
+        &[],
+        &[(0, false, (1, 1, 0)), (0, true, (1, 1, 0))],
+        "feasible",
+    ),
+    (
+        1,
+        &[],
+        &[(0, false, (2, 1, 0)), (0, true, (1, 1, 0))],
+        "infeasible",
+    ),
+    (
+        1,
+        &[],
+        &[(0, false, (0, 1, 1)), (0, true, (1, 1000, -1))],
+        "feasible",
+    ),
+    (
+        1,
+        &[],
+        &[(0, false, (1, 1000, 1)), (0, true, (1, 1000, 0))],
+        "infeasible",
+    ),
+    (
+        1,
+        &[],
+        &[(0, false, (1, 1000, 0)), (0, true, (1, 1000, 0))],
+        "feasible",
+    ),
+    (1, &[&[]], &[(1, false, (0, 1, 0))], "feasible"),
+    (1, &[&[]], &[(1, false, (0, 1, 1))], "infeasible"),
+    (
+        1,
+        &[&[(0, 1), (0, 1)]],
+        &[(0, true, (1, 1, 0)), (1, false, (2, 1, 0))],
+        "feasible",
+    ),
+    (
+        1,
+        &[&[(0, 1), (0, 1)]],
+        &[(0, true, (1, 1, 0)), (1, false, (3, 1, 0))],
+        "infeasible",
+    ),
+    (
+        1,
+        &[&[(0, 0)]],
+        &[(0, false, (5, 1, 0)), (1, true, (-1, 1000, 0))],
+        "infeasible",
+    ),
+    (
+        2,
+        &[&[(0, 1), (1, 1)]],
+        &[
+            (0, true, (1, 1, 0)),
+            (1, true, (1, 1, 0)),
+            (2, false, (2, 1, 0)),
+        ],
+        "feasible",
+    ),
+    (
+        2,
+        &[&[(0, 1), (1, 1)]],
+        &[
+            (0, true, (1, 1, -1)),
+            (1, true, (1, 1, 0)),
+            (2, false, (2, 1, 0)),
+        ],
+        "infeasible",
+    ),
+    (
+        2,
+        &[&[(0, 1), (1, 1)]],
+        &[
+            (0, false, (0, 1, 1)),
+            (1, false, (0, 1, 1)),
+            (2, true, (1, 1000, -1)),
+        ],
+        "feasible",
+    ),
+    (
+        2,
+        &[&[(0, 1), (1, 1)]],
+        &[
+            (0, false, (0, 1, 0)),
+            (1, false, (0, 1, 0)),
+            (2, true, (0, 1, -1)),
+        ],
+        "infeasible",
+    ),
+    (
+        2,
+        &[&[(0, 1), (1, 1)], &[(0, 1), (1, -1)]],
+        &[
+            (2, false, (2, 1, 0)),
+            (2, true, (2, 1, 0)),
+            (3, false, (0, 1, 0)),
+            (3, true, (0, 1, 0)),
+            (0, true, (1, 1, 0)),
+        ],
+        "feasible",
+    ),
+    (
+        2,
+        &[&[(0, 1), (1, 1)], &[(0, 1), (1, -1)]],
+        &[
+            (2, false, (2, 1, 0)),
+            (2, true, (2, 1, 0)),
+            (3, false, (0, 1, 0)),
+            (3, true, (0, 1, 0)),
+            (0, true, (1, 1, -1)),
+        ],
+        "infeasible",
+    ),
+    (
+        2,
+        &[&[(0, 2), (1, 3)], &[(2, 5), (0, -10)]],
+        &[(3, false, (15, 1, 0)), (1, true, (1, 1, 0))],
+        "feasible",
+    ),
+    (
+        2,
+        &[&[(0, 2), (1, 3)], &[(2, 5), (0, -10)]],
+        &[(3, false, (15, 1, 1)), (1, true, (1, 1, 0))],
+        "infeasible",
+    ),
+    (
+        4,
+        &BEALE,
+        &[
+            (0, false, (0, 1, 0)),
+            (1, false, (0, 1, 0)),
+            (2, false, (0, 1, 0)),
+            (3, false, (0, 1, 0)),
+            (4, true, (0, 1, 0)),
+            (5, true, (0, 1, 0)),
+            (2, true, (1, 1, 0)),
+            (6, false, (5, 1, 0)),
+        ],
+        "feasible",
+    ),
+    (
+        4,
+        &BEALE,
+        &[
+            (0, false, (0, 1, 0)),
+            (1, false, (0, 1, 0)),
+            (2, false, (0, 1, 0)),
+            (3, false, (0, 1, 0)),
+            (4, true, (0, 1, 0)),
+            (5, true, (0, 1, 0)),
+            (2, true, (1, 1, 0)),
+            (6, false, (5, 1, 1)),
+        ],
+        "infeasible",
+    ),
+    (
+        4,
+        &CHVATAL,
+        &[
+            (0, false, (0, 1, 0)),
+            (1, false, (0, 1, 0)),
+            (2, false, (0, 1, 0)),
+            (3, false, (0, 1, 0)),
+            (4, true, (0, 1, 0)),
+            (5, true, (0, 1, 0)),
+            (0, true, (1, 1, 0)),
+            (6, false, (1, 1, 0)),
+        ],
+        "feasible",
+    ),
+    (
+        4,
+        &CHVATAL,
+        &[
+            (0, false, (0, 1, 0)),
+            (1, false, (0, 1, 0)),
+            (2, false, (0, 1, 0)),
+            (3, false, (0, 1, 0)),
+            (4, true, (0, 1, 0)),
+            (5, true, (0, 1, 0)),
+            (0, true, (1, 1, 0)),
+            (6, false, (1, 1, 1)),
+        ],
+        "infeasible",
+    ),
+    (
+        4,
+        &KUHN,
+        &[
+            (0, false, (0, 1, 0)),
+            (1, false, (0, 1, 0)),
+            (2, false, (0, 1, 0)),
+            (3, false, (0, 1, 0)),
+            (4, true, (0, 1, 0)),
+            (5, true, (0, 1, 0)),
+            (6, true, (2, 1, 0)),
+            (6, false, (2, 1, 0)),
+        ],
+        "feasible",
+    ),
+    (
+        4,
+        &KUHN,
+        &[
+            (0, false, (0, 1, 0)),
+            (1, false, (0, 1, 0)),
+            (2, false, (0, 1, 0)),
+            (3, false, (0, 1, 0)),
+            (4, true, (0, 1, 0)),
+            (5, true, (0, 1, 0)),
+            (6, true, (2, 1, 0)),
+            (6, false, (2, 1, 1)),
+        ],
+        "infeasible",
+    ),
+    (
+        3,
+        &SUURBALLE,
+        &[
+            (0, false, (0, 1, 0)),
+            (1, false, (0, 1, 0)),
+            (2, false, (0, 1, 0)),
+            (3, true, (0, 1, 0)),
+            (4, true, (0, 1, 0)),
+            (5, true, (0, 1, 0)),
+            (1, true, (1, 1, 0)),
+            (6, false, (10, 1, 0)),
+        ],
+        "feasible",
+    ),
+    (
+        3,
+        &SUURBALLE,
+        &[
+            (0, false, (0, 1, 0)),
+            (1, false, (0, 1, 0)),
+            (2, false, (0, 1, 0)),
+            (3, true, (0, 1, 0)),
+            (4, true, (0, 1, 0)),
+            (5, true, (0, 1, 0)),
+            (1, true, (1, 1, 0)),
+            (6, false, (10, 1, 1)),
+        ],
+        "infeasible",
+    ),
+];
+
+const BEALE: [&[(usize, i128)]; 3] = [
+    &[(0, 25), (1, -6000), (2, -4), (3, 900)],
+    &[(0, 50), (1, -9000), (2, -2), (3, 300)],
+    &[(0, 75), (1, -15000), (2, 2), (3, -600)],
+];
+
+const CHVATAL: [&[(usize, i128)]; 3] = [
+    &[(0, 1), (1, -11), (2, -5), (3, 18)],
+    &[(0, 1), (1, -3), (2, -1), (3, 2)],
+    &[(0, 10), (1, -57), (2, -9), (3, -24)],
+];
+
+const KUHN: [&[(usize, i128)]; 3] = [
+    &[(0, -2), (1, -9), (2, 1), (3, 9)],
+    &[(0, 1), (1, 3), (2, -1), (3, -6)],
+    &[(0, 2), (1, 3), (2, -1), (3, -12)],
+];
+
+const SUURBALLE: [&[(usize, i128)]; 4] = [
+    &[(0, 3), (1, -32), (2, 24)],
+    &[(0, 1), (1, -9), (2, 3)],
+    &[(0, 2), (1, -8), (2, 1)],
+    &[(0, 2), (1, 2), (2, -9)],
+];
+
+// The system of a row of the table.
+fn system(
+    rt: &impl Abort,
+    alloc: Global,
+    count: usize,
+    rows: &[&[(usize, i128)]],
+    bounds: &[(usize, bool, (i128, i128, i128))],
+) -> Result<Simplex, Fail> {
+    let mut simplex = Simplex::new(alloc);
+    for _made in 0..count {
+        simplex.new_var()?;
+    }
+    for terms in rows {
+        row(rt, alloc, &mut simplex, terms, 1)?;
+    }
+    for (variable, upper, at) in bounds {
+        bound(rt, &mut simplex, *variable, *upper, *at)?;
+    }
+    Ok(simplex)
+}
+
+// Where the answer is feasible, there are fractions for all variables too.
 #[test]
-fn no_cycle(rt: HostRuntime) -> Result<(), Fail> {
+fn systems_have_their_answers(rt: HostRuntime) -> Result<(), Fail> {
+    for (count, rows, bounds, want) in SYSTEMS {
+        let mut simplex = system(&rt, rt.alloc(), count, rows, bounds)?;
+        let said = simplex.check();
+        assert_eq!(rt; word(&said), want);
+        if let Outcome::Feasible = said {
+            let found = simplex.concrete(rt.alloc()).ok().ok_or("no fractions")?;
+            assert_eq!(rt; found.as_slice().len(), simplex.vars());
+        }
+    }
+    Ok(())
+}
+
+// Each sum of three of eight variables, with each choice of signs, is at most 1.
+fn bound_triple(
+    rt: &impl Abort,
+    alloc: Global,
+    simplex: &mut Simplex,
+    of: (usize, usize, usize),
+) -> Result<(), Fail> {
+    for signs in 0..8usize {
+        let sign = |bit: usize| if signs / bit % 2 == 0 { 1 } else { -1 };
+        let terms = [(of.0, sign(1)), (of.1, sign(2)), (of.2, sign(4))];
+        let sum = row(rt, alloc, simplex, &terms, 1)?;
+        bound(rt, simplex, sum, true, (1, 1, 0))?;
+    }
+    Ok(())
+}
+
+fn bound_triples(
+    rt: &impl Abort,
+    alloc: Global,
+    simplex: &mut Simplex,
+    last: usize,
+) -> Result<(), Fail> {
+    for middle in 0..last {
+        for first in 0..middle {
+            bound_triple(rt, alloc, simplex, (first, middle, last))?;
+        }
+    }
+    Ok(())
+}
+
+// Then the sum of all eight is at most 8/3.
+#[test]
+fn signed_triples(rt: HostRuntime) -> Result<(), Fail> {
     let alloc = rt.alloc();
     let mut simplex = Simplex::new(alloc);
-    for v in 0..4usize {
+    for _made in 0..8usize {
         simplex.new_var()?;
-        bound(&rt, &mut simplex, v, false, (0, 1, 0))?;
     }
-    let a = row(
-        &rt,
-        alloc,
-        &mut simplex,
-        &[(0, 25), (1, -6000), (2, -4), (3, 900)],
-        100,
-    )?;
-    let b = row(
-        &rt,
-        alloc,
-        &mut simplex,
-        &[(0, 50), (1, -9000), (2, -2), (3, 300)],
-        100,
-    )?;
-    let z = row(
-        &rt,
-        alloc,
-        &mut simplex,
-        &[(0, 75), (1, -15000), (2, 2), (3, -600)],
-        100,
-    )?;
-    bound(&rt, &mut simplex, a, true, (0, 1, 0))?;
-    bound(&rt, &mut simplex, b, true, (0, 1, 0))?;
-    bound(&rt, &mut simplex, 2, true, (1, 1, 0))?;
-    bound(&rt, &mut simplex, z, false, (1, 20, 0))?;
-    assert_eq!(rt; word(&simplex.check()), "feasible");
-    assert!(rt; z < simplex.vars());
-    let best = simplex.value(z);
-    assert_eq!(rt; (best.real.numer(), best.real.denom()), (1, 20));
-    bound(&rt, &mut simplex, z, false, (1, 20, 1))?;
-    assert_eq!(rt; word(&simplex.check()), "infeasible");
+    for last in 0..8usize {
+        bound_triples(&rt, alloc, &mut simplex, last)?;
+    }
+    let terms = [
+        (0, 1),
+        (1, 1),
+        (2, 1),
+        (3, 1),
+        (4, 1),
+        (5, 1),
+        (6, 1),
+        (7, 1),
+    ];
+    let total = row(&rt, alloc, &mut simplex, &terms, 1)?;
+    for (at, want) in [
+        ((1, 2, 0), "feasible"),
+        ((8, 3, 0), "feasible"),
+        ((8, 3, 1), "infeasible"),
+        ((3, 1, 0), "infeasible"),
+    ] {
+        simplex.mark()?;
+        bound(&rt, &mut simplex, total, false, at)?;
+        assert_eq!(rt; word(&simplex.check()), want);
+        assert!(rt; simplex.marks() > 0);
+        simplex.back();
+    }
+    Ok(())
+}
+
+// Three marks, each with a bound more, taken back one after another.
+#[test]
+fn marks_are_undone_in_order(rt: HostRuntime) -> Result<(), Fail> {
+    let mut simplex = Simplex::new(rt.alloc());
+    let x = simplex.new_var()?;
+    bound(&rt, &mut simplex, x, false, (1, 1, 0))?;
+    for (upper, at, want) in [
+        (true, (2, 1, 0), "feasible"),
+        (false, (2, 1, 1), "infeasible"),
+        (true, (0, 1, 0), "infeasible"),
+    ] {
+        simplex.mark()?;
+        bound(&rt, &mut simplex, x, upper, at)?;
+        assert_eq!(rt; word(&simplex.check()), want);
+    }
+    for want in ["infeasible", "feasible", "feasible"] {
+        assert!(rt; simplex.marks() > 0);
+        simplex.back();
+        assert_eq!(rt; word(&simplex.check()), want);
+    }
     Ok(())
 }
 
