@@ -11,7 +11,7 @@ use std::process::Abort;
 use std::test::Fail;
 use y_io::{Failed, FailingSink, FailingSource, FileName, MemorySink, MemorySource, Source};
 
-/// A text with its status, its replies and its line on errors.
+/// A text with its status, its replies, and what its line on errors says of standard input; nothing where there is no line.
 pub type Row = (&'static str, u8, &'static str, &'static str);
 
 /// Gives at most so many bytes at a time.
@@ -70,10 +70,19 @@ fn expect_run<R: Abort + AllocGlobal>(
     Ok(())
 }
 
+// The line on errors that says this of standard input.
+fn line_of<R: Abort + AllocGlobal>(rt: &R, said: &str) -> Result<String, Fail> {
+    if said.is_empty() {
+        return Ok(String::new(rt.alloc()));
+    }
+    Ok(format!(in rt.alloc(); "yices: <stdin>:{said}\n")?)
+}
+
 // Runs the texts of a table.
 fn expect_rows<R: Abort + AllocGlobal>(rt: &R, rows: &[Row]) -> Result<(), Fail> {
-    for (text, status, replies, line) in rows {
-        expect_run(rt, text, 1000000, *status, replies, line)?;
+    for (text, status, replies, said) in rows {
+        let line = line_of(rt, said)?;
+        expect_run(rt, text, 1000000, *status, replies, line.as_str())?;
     }
     Ok(())
 }
