@@ -9,17 +9,16 @@ fn fraction(num: i128, den: i128) -> Result<Frac, Fail> {
     Ok(Frac::new(num, den)?)
 }
 
-// The variable that is the sum of the terms, each with a whole number over a denominator.
+// The variable that is the sum of the terms, each a variable times a whole number.
 fn row(
     rt: &impl Abort,
     alloc: Global,
     simplex: &mut Simplex,
     terms: &[(usize, i128)],
-    den: i128,
 ) -> Result<usize, Fail> {
     let mut row = Vec::new(alloc);
     for (variable, num) in terms {
-        row.push((*variable, fraction(*num, den)?))?;
+        row.push((*variable, fraction(*num, 1)?))?;
     }
     assert!(rt; simplex.knows(&row));
     let made = simplex.add_row(&row).ok().ok_or("no row")?;
@@ -81,323 +80,182 @@ fn strictly_between(rt: HostRuntime) -> Result<(), Fail> {
     Ok(())
 }
 
-// Systems with their answers: how many variables there are, the terms of each row, the bounds (a variable, whether it is an
-// upper bound, and numerator, denominator and infinitesimals of the number), and the answer. Rows are numbered after the
-// variables. The last eight are four systems that cycle under the rule of the largest coefficient (Beale's, Chvátal's, Kuhn's,
-// and Marshall's and Suurballe's), each with the largest value of its last row, and with more.
-const SYSTEMS: [(
-    usize,
-    &[&[(usize, i128)]],
-    &[(usize, bool, (i128, i128, i128))],
-    &str,
-); 28] = [
-    (0, &[], &[], "feasible"),
-    (1, &[], &[], "feasible"),
+// The terms of each row of a system.
+type Rows = &'static [&'static [(usize, i128)]];
+
+const NOTHING: Rows = &[&[]];
+
+const ZERO: Rows = &[&[(0, 0)]];
+
+const TWICE: Rows = &[&[(0, 1), (0, 1)]];
+
+const SUM: Rows = &[&[(0, 1), (1, 1)]];
+
+const BOTH: Rows = &[&[(0, 1), (1, 1)], &[(0, 1), (1, -1)]];
+
+const NESTED: Rows = &[&[(0, 2), (1, 3)], &[(2, 5), (0, -10)]];
+
+// Bounds: the variable, whether it is an upper bound, thousandths and infinitesimals of the number. Rows are numbered after
+// the variables.
+type Limits = &'static [(usize, bool, i128, i128)];
+
+const EQUAL: Limits = &[
+    (2, false, 2000, 0),
+    (2, true, 2000, 0),
+    (3, false, 0, 0),
+    (3, true, 0, 0),
+    (0, true, 1000, 0),
+];
+
+const UNEQUAL: Limits = &[
+    (2, false, 2000, 0),
+    (2, true, 2000, 0),
+    (3, false, 0, 0),
+    (3, true, 0, 0),
+    (0, true, 1000, -1),
+];
+
+// Systems: how many variables there are, the rows, the bounds, and whether some values meet them.
+const SYSTEMS: [(usize, Rows, Limits, bool); 20] = [
+    (0, &[], &[], true),
+    (1, &[], &[], true),
+    (1, &[], &[(0, false, 1000, 0), (0, true, 1000, 0)], true),
+    (1, &[], &[(0, false, 2000, 0), (0, true, 1000, 0)], false),
+    (1, &[], &[(0, false, 0, 1), (0, true, 1, -1)], true),
+    (1, &[], &[(0, false, 1, 1), (0, true, 1, 0)], false),
+    (1, &[], &[(0, false, 1, 0), (0, true, 1, 0)], true),
+    (1, NOTHING, &[(1, false, 0, 0)], true),
+    (1, NOTHING, &[(1, false, 0, 1)], false),
+    (1, TWICE, &[(0, true, 1000, 0), (1, false, 2000, 0)], true),
+    (1, TWICE, &[(0, true, 1000, 0), (1, false, 3000, 0)], false),
+    (1, ZERO, &[(0, false, 5000, 0), (1, true, -1, 0)], false),
     (
-        1,
-        &[],
-        &[(0, false, (1, 1, 0)), (0, true, (1, 1, 0))],
-        "feasible",
-    ),
-    (
-        1,
-        &[],
-        &[(0, false, (2, 1, 0)), (0, true, (1, 1, 0))],
-        "infeasible",
-    ),
-    (
-        1,
-        &[],
-        &[(0, false, (0, 1, 1)), (0, true, (1, 1000, -1))],
-        "feasible",
-    ),
-    (
-        1,
-        &[],
-        &[(0, false, (1, 1000, 1)), (0, true, (1, 1000, 0))],
-        "infeasible",
-    ),
-    (
-        1,
-        &[],
-        &[(0, false, (1, 1000, 0)), (0, true, (1, 1000, 0))],
-        "feasible",
-    ),
-    (1, &[&[]], &[(1, false, (0, 1, 0))], "feasible"),
-    (1, &[&[]], &[(1, false, (0, 1, 1))], "infeasible"),
-    (
-        1,
-        &[&[(0, 1), (0, 1)]],
-        &[(0, true, (1, 1, 0)), (1, false, (2, 1, 0))],
-        "feasible",
-    ),
-    (
-        1,
-        &[&[(0, 1), (0, 1)]],
-        &[(0, true, (1, 1, 0)), (1, false, (3, 1, 0))],
-        "infeasible",
-    ),
-    (
-        1,
-        &[&[(0, 0)]],
-        &[(0, false, (5, 1, 0)), (1, true, (-1, 1000, 0))],
-        "infeasible",
+        2,
+        SUM,
+        &[(0, true, 1, 0), (1, true, 1, 0), (2, false, 2, 0)],
+        true,
     ),
     (
         2,
-        &[&[(0, 1), (1, 1)]],
-        &[
-            (0, true, (1, 1, 0)),
-            (1, true, (1, 1, 0)),
-            (2, false, (2, 1, 0)),
-        ],
-        "feasible",
+        SUM,
+        &[(0, true, 1, -1), (1, true, 1, 0), (2, false, 2, 0)],
+        false,
     ),
     (
         2,
-        &[&[(0, 1), (1, 1)]],
-        &[
-            (0, true, (1, 1, -1)),
-            (1, true, (1, 1, 0)),
-            (2, false, (2, 1, 0)),
-        ],
-        "infeasible",
+        SUM,
+        &[(0, false, 0, 1), (1, false, 0, 1), (2, true, 1, -1)],
+        true,
     ),
     (
         2,
-        &[&[(0, 1), (1, 1)]],
-        &[
-            (0, false, (0, 1, 1)),
-            (1, false, (0, 1, 1)),
-            (2, true, (1, 1000, -1)),
-        ],
-        "feasible",
+        SUM,
+        &[(0, false, 0, 0), (1, false, 0, 0), (2, true, 0, -1)],
+        false,
     ),
+    (2, BOTH, EQUAL, true),
+    (2, BOTH, UNEQUAL, false),
+    (2, NESTED, &[(3, false, 15000, 0), (1, true, 1000, 0)], true),
     (
         2,
-        &[&[(0, 1), (1, 1)]],
-        &[
-            (0, false, (0, 1, 0)),
-            (1, false, (0, 1, 0)),
-            (2, true, (0, 1, -1)),
-        ],
-        "infeasible",
-    ),
-    (
-        2,
-        &[&[(0, 1), (1, 1)], &[(0, 1), (1, -1)]],
-        &[
-            (2, false, (2, 1, 0)),
-            (2, true, (2, 1, 0)),
-            (3, false, (0, 1, 0)),
-            (3, true, (0, 1, 0)),
-            (0, true, (1, 1, 0)),
-        ],
-        "feasible",
-    ),
-    (
-        2,
-        &[&[(0, 1), (1, 1)], &[(0, 1), (1, -1)]],
-        &[
-            (2, false, (2, 1, 0)),
-            (2, true, (2, 1, 0)),
-            (3, false, (0, 1, 0)),
-            (3, true, (0, 1, 0)),
-            (0, true, (1, 1, -1)),
-        ],
-        "infeasible",
-    ),
-    (
-        2,
-        &[&[(0, 2), (1, 3)], &[(2, 5), (0, -10)]],
-        &[(3, false, (15, 1, 0)), (1, true, (1, 1, 0))],
-        "feasible",
-    ),
-    (
-        2,
-        &[&[(0, 2), (1, 3)], &[(2, 5), (0, -10)]],
-        &[(3, false, (15, 1, 1)), (1, true, (1, 1, 0))],
-        "infeasible",
-    ),
-    (
-        4,
-        &BEALE,
-        &[
-            (0, false, (0, 1, 0)),
-            (1, false, (0, 1, 0)),
-            (2, false, (0, 1, 0)),
-            (3, false, (0, 1, 0)),
-            (4, true, (0, 1, 0)),
-            (5, true, (0, 1, 0)),
-            (2, true, (1, 1, 0)),
-            (6, false, (5, 1, 0)),
-        ],
-        "feasible",
-    ),
-    (
-        4,
-        &BEALE,
-        &[
-            (0, false, (0, 1, 0)),
-            (1, false, (0, 1, 0)),
-            (2, false, (0, 1, 0)),
-            (3, false, (0, 1, 0)),
-            (4, true, (0, 1, 0)),
-            (5, true, (0, 1, 0)),
-            (2, true, (1, 1, 0)),
-            (6, false, (5, 1, 1)),
-        ],
-        "infeasible",
-    ),
-    (
-        4,
-        &CHVATAL,
-        &[
-            (0, false, (0, 1, 0)),
-            (1, false, (0, 1, 0)),
-            (2, false, (0, 1, 0)),
-            (3, false, (0, 1, 0)),
-            (4, true, (0, 1, 0)),
-            (5, true, (0, 1, 0)),
-            (0, true, (1, 1, 0)),
-            (6, false, (1, 1, 0)),
-        ],
-        "feasible",
-    ),
-    (
-        4,
-        &CHVATAL,
-        &[
-            (0, false, (0, 1, 0)),
-            (1, false, (0, 1, 0)),
-            (2, false, (0, 1, 0)),
-            (3, false, (0, 1, 0)),
-            (4, true, (0, 1, 0)),
-            (5, true, (0, 1, 0)),
-            (0, true, (1, 1, 0)),
-            (6, false, (1, 1, 1)),
-        ],
-        "infeasible",
-    ),
-    (
-        4,
-        &KUHN,
-        &[
-            (0, false, (0, 1, 0)),
-            (1, false, (0, 1, 0)),
-            (2, false, (0, 1, 0)),
-            (3, false, (0, 1, 0)),
-            (4, true, (0, 1, 0)),
-            (5, true, (0, 1, 0)),
-            (6, true, (2, 1, 0)),
-            (6, false, (2, 1, 0)),
-        ],
-        "feasible",
-    ),
-    (
-        4,
-        &KUHN,
-        &[
-            (0, false, (0, 1, 0)),
-            (1, false, (0, 1, 0)),
-            (2, false, (0, 1, 0)),
-            (3, false, (0, 1, 0)),
-            (4, true, (0, 1, 0)),
-            (5, true, (0, 1, 0)),
-            (6, true, (2, 1, 0)),
-            (6, false, (2, 1, 1)),
-        ],
-        "infeasible",
-    ),
-    (
-        3,
-        &SUURBALLE,
-        &[
-            (0, false, (0, 1, 0)),
-            (1, false, (0, 1, 0)),
-            (2, false, (0, 1, 0)),
-            (3, true, (0, 1, 0)),
-            (4, true, (0, 1, 0)),
-            (5, true, (0, 1, 0)),
-            (1, true, (1, 1, 0)),
-            (6, false, (10, 1, 0)),
-        ],
-        "feasible",
-    ),
-    (
-        3,
-        &SUURBALLE,
-        &[
-            (0, false, (0, 1, 0)),
-            (1, false, (0, 1, 0)),
-            (2, false, (0, 1, 0)),
-            (3, true, (0, 1, 0)),
-            (4, true, (0, 1, 0)),
-            (5, true, (0, 1, 0)),
-            (1, true, (1, 1, 0)),
-            (6, false, (10, 1, 1)),
-        ],
-        "infeasible",
+        NESTED,
+        &[(3, false, 15000, 1), (1, true, 1000, 0)],
+        false,
     ),
 ];
 
-const BEALE: [&[(usize, i128)]; 3] = [
+const BEALE: Rows = &[
     &[(0, 25), (1, -6000), (2, -4), (3, 900)],
     &[(0, 50), (1, -9000), (2, -2), (3, 300)],
     &[(0, 75), (1, -15000), (2, 2), (3, -600)],
 ];
 
-const CHVATAL: [&[(usize, i128)]; 3] = [
+const CHVATAL: Rows = &[
     &[(0, 1), (1, -11), (2, -5), (3, 18)],
     &[(0, 1), (1, -3), (2, -1), (3, 2)],
     &[(0, 10), (1, -57), (2, -9), (3, -24)],
 ];
 
-const KUHN: [&[(usize, i128)]; 3] = [
+const KUHN: Rows = &[
     &[(0, -2), (1, -9), (2, 1), (3, 9)],
     &[(0, 1), (1, 3), (2, -1), (3, -6)],
     &[(0, 2), (1, 3), (2, -1), (3, -12)],
 ];
 
-const SUURBALLE: [&[(usize, i128)]; 4] = [
+const MARSHALL_SUURBALLE: Rows = &[
     &[(0, 3), (1, -32), (2, 24)],
     &[(0, 1), (1, -9), (2, 3)],
     &[(0, 2), (1, -8), (2, 1)],
     &[(0, 2), (1, 2), (2, -9)],
 ];
 
-// The system of a row of the table.
+// Systems that cycle under the rule of the largest coefficient: how many variables there are, all at least 0; the rows, all
+// but the last at most 0; what else has an upper bound; and the largest value of the last row.
+const CYCLING: [(usize, Rows, (usize, i128), i128); 4] = [
+    (4, BEALE, (2, 1), 5),
+    (4, CHVATAL, (0, 1), 1),
+    (4, KUHN, (6, 2), 2),
+    (3, MARSHALL_SUURBALLE, (1, 1), 10),
+];
+
+// A system over so many variables.
 fn system(
     rt: &impl Abort,
     alloc: Global,
     count: usize,
     rows: &[&[(usize, i128)]],
-    bounds: &[(usize, bool, (i128, i128, i128))],
+    limits: &[(usize, bool, i128, i128)],
 ) -> Result<Simplex, Fail> {
     let mut simplex = Simplex::new(alloc);
     for _made in 0..count {
         simplex.new_var()?;
     }
     for terms in rows {
-        row(rt, alloc, &mut simplex, terms, 1)?;
+        row(rt, alloc, &mut simplex, terms)?;
     }
-    for (variable, upper, at) in bounds {
-        bound(rt, &mut simplex, *variable, *upper, *at)?;
+    for (variable, upper, thousandths, inf) in limits {
+        bound(
+            rt,
+            &mut simplex,
+            *variable,
+            *upper,
+            (*thousandths, 1000, *inf),
+        )?;
     }
     Ok(simplex)
 }
 
-// Where the answer is feasible, there are fractions for all variables too.
+// Where some values meet a system, there are fractions for all variables too.
 #[test]
 fn systems_have_their_answers(rt: HostRuntime) -> Result<(), Fail> {
-    for (count, rows, bounds, want) in SYSTEMS {
-        let mut simplex = system(&rt, rt.alloc(), count, rows, bounds)?;
+    for (count, rows, limits, is_met) in SYSTEMS {
+        let mut simplex = system(&rt, rt.alloc(), count, rows, limits)?;
         let said = simplex.check();
-        assert_eq!(rt; word(&said), want);
+        assert_eq!(rt; word(&said), if is_met { "feasible" } else { "infeasible" });
         if let Outcome::Feasible = said {
             let found = simplex.concrete(rt.alloc()).ok().ok_or("no fractions")?;
             assert_eq!(rt; found.as_slice().len(), simplex.vars());
         }
+    }
+    Ok(())
+}
+
+#[test]
+fn no_cycle(rt: HostRuntime) -> Result<(), Fail> {
+    for (count, rows, (capped, cap), largest) in CYCLING {
+        let mut simplex = system(&rt, rt.alloc(), count, rows, &[])?;
+        let last = simplex.vars().saturating_sub(1);
+        for variable in 0..count {
+            bound(&rt, &mut simplex, variable, false, (0, 1, 0))?;
+        }
+        for variable in count..last {
+            bound(&rt, &mut simplex, variable, true, (0, 1, 0))?;
+        }
+        bound(&rt, &mut simplex, capped, true, (cap, 1, 0))?;
+        bound(&rt, &mut simplex, last, false, (largest, 1, 0))?;
+        assert_eq!(rt; word(&simplex.check()), "feasible");
+        bound(&rt, &mut simplex, last, false, (largest, 1, 1))?;
+        assert_eq!(rt; word(&simplex.check()), "infeasible");
     }
     Ok(())
 }
@@ -412,7 +270,7 @@ fn bound_triple(
     for signs in 0..8usize {
         let sign = |bit: usize| if signs / bit % 2 == 0 { 1 } else { -1 };
         let terms = [(of.0, sign(1)), (of.1, sign(2)), (of.2, sign(4))];
-        let sum = row(rt, alloc, simplex, &terms, 1)?;
+        let sum = row(rt, alloc, simplex, &terms)?;
         bound(rt, simplex, sum, true, (1, 1, 0))?;
     }
     Ok(())
@@ -453,7 +311,7 @@ fn signed_triples(rt: HostRuntime) -> Result<(), Fail> {
         (6, 1),
         (7, 1),
     ];
-    let total = row(&rt, alloc, &mut simplex, &terms, 1)?;
+    let total = row(&rt, alloc, &mut simplex, &terms)?;
     for (at, want) in [
         ((1, 2, 0), "feasible"),
         ((8, 3, 0), "feasible"),
