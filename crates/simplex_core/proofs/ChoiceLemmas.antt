@@ -10,11 +10,11 @@ use Rattle.rationals.proofs.FieldQ.{zero_of_num}
 use Rattle.fraction128.specs.declared.infinitesimal.Delta.{Delta as Fractions}
 use Rattle.simplex_logic.specs.Limits.{Stuck, Moves}
 use Rattle.simplex_table.specs.View.{delta_of, delta_at, deltas}
-use Rattle.simplex_core.specs.declared.bounds.Bound.{Bound}
-use Rattle.simplex_core.specs.declared.bounds.Range.{Range}
-use Rattle.simplex_core.specs.Ranges.{free, range_at, limit_of, limits_of, InRange}
+use Rattle.simplex_bounds.specs.declared.Bound.{Bound}
+use Rattle.simplex_bounds.specs.declared.Range.{Range}
+use Rattle.simplex_bounds.specs.Ranges.{free, range_at, limit_of, limits_of, InRange}
 use Rattle.simplex_core.specs.Choosing.{IsViolated, IsFirstViolated, AreWithin}
-use Rattle.simplex_core.proofs.RangeLemmas.{past_end}
+use Rattle.simplex_bounds.proofs.RangeLemmas.{past_end}
 
 -- ---- the sign of a delta_of
 pub negative_num : (q : ℚ) → q.num <ℤ pos 0 → q <ℚ zero_ℚ

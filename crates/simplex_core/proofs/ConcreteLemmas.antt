@@ -16,8 +16,8 @@ use Rattle.fraction128.specs.declared.errors.Wide.{Wide}
 use Rattle.simplex_logic.specs.Concretes.{Allows, at_step}
 use Rattle.simplex_logic.proofs.Concrete.{quotient_positive, smaller_allows, within_quotient, any_allows}
 use Rattle.simplex_table.specs.View.{delta_of, delta_at}
-use Rattle.simplex_core.specs.declared.bounds.Bound.{Bound}
-use Rattle.simplex_core.specs.Ranges.{OnSide, Holds}
+use Rattle.simplex_bounds.specs.declared.Bound.{Bound}
+use Rattle.simplex_bounds.specs.Ranges.{OnSide, Holds}
 use Rattle.simplex_core.specs.Concrete.{IsLargest, low_of, high_of, IsLeast, alone, is_other, is_step, low_at, high_at, IsStepOf, is_one, is_largest, IsCommonStep}
 
 -- ---- differences

@@ -22,8 +22,8 @@ use Rattle.simplex_logic.proofs.Pivot.{value_same}
 use Rattle.simplex_logic.proofs.Quantity.{tabled_expression}
 use Rattle.simplex_table.specs.View.{State, Sound, row_at, delta_of, delta_at}
 use Rattle.simplex_table.specs.Causes.{op_fits}
-use Rattle.simplex_core.specs.declared.bounds.Bound.{Bound}
-use Rattle.simplex_core.specs.Ranges.{OnSide}
+use Rattle.simplex_bounds.specs.declared.Bound.{Bound}
+use Rattle.simplex_bounds.specs.Ranges.{OnSide}
 use Rattle.simplex_core.specs.Wides.{values_of, Known}
 use Rattle.simplex_core.specs.Solving.{IsFound}
 use Rattle.simplex_core.specs.Concrete.{WideOn, IsLargest, IsStepWide, reals_apart, infs_apart, divided, low_of, high_of, low_at, high_at, IsStepOf, is_one, is_largest, IsCommonStep, IsBoundWide, IsValueWide, product_wide, sum_wide, AreConcrete, IsSomeValueWide, OnSide_ℚ, IsConcrete}

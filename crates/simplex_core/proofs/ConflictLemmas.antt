@@ -20,9 +20,9 @@ use Rattle.simplex_logic.proofs.Bland.{weighted, of_neg}
 use Rattle.simplex_logic.proofs.Step.{turned_row, row_value}
 use Rattle.simplex_logic.proofs.Certificate.{refuted, contradiction_up, contradiction_down}
 use Rattle.simplex_table.specs.View.{delta_of}
-use Rattle.simplex_core.specs.declared.bounds.Bound.{Bound}
-use Rattle.simplex_core.specs.declared.bounds.Range.{Range}
-use Rattle.simplex_core.specs.Ranges.{range_at, limit_of, limits_of, OnSide, Holds, Ranged, Crosses}
+use Rattle.simplex_bounds.specs.declared.Bound.{Bound}
+use Rattle.simplex_bounds.specs.declared.Range.{Range}
+use Rattle.simplex_bounds.specs.Ranges.{range_at, limit_of, limits_of, OnSide, Holds, Ranged, Crosses}
 use Rattle.simplex_core.specs.Conflicts.{Named, Names, IsConflict, HasTag, ConflictsRefute, IsStop, no_stop, open_up, open_low, Certificate, Certifies, CertifiesTo, IsPair}
 use Rattle.simplex_core.specs.Conflicts as C
 

@@ -10,7 +10,7 @@ use Rattle.simplex_logic.specs.Forms.{Form, row_of, Below}
 use Rattle.simplex_logic.specs.Quantities.{In}
 use Rattle.simplex_core.specs.Wides.{values_of}
 use Rattle.simplex_table.specs.View.{State, delta_at}
-use Rattle.simplex_core.specs.declared.bounds.Bound.{Bound}
+use Rattle.simplex_bounds.specs.declared.Bound.{Bound}
 use Rattle.simplex_core.specs.Content.{Content}
 use Rattle.simplex_core.specs.Inside.{saved_of, Rising}
 use Rattle.simplex_core.specs.Solving.{IsFound}

@@ -1,4 +1,3 @@
-pub mod RangeLemmas
 pub mod ChoiceLemmas
 pub mod ConflictLemmas
 pub mod PointLemmas

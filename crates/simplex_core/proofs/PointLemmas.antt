@@ -3,8 +3,8 @@ use Rattle.std.proofs.Common.{◌≡◌, ℕ, zero, suc, ◌+◌, ◌<◌, List,
 use Rattle.std.proofs.lemmas.List.{take_more, length-append, get_or_append_left}
 use Rattle.fraction128.specs.declared.infinitesimal.Delta.{Delta as Fractions}
 use Rattle.simplex_table.specs.View.{delta_of, delta_at}
-use Rattle.simplex_core.specs.declared.bounds.Range.{Range}
-use Rattle.simplex_core.specs.Ranges.{range_at, InRange, Stands}
+use Rattle.simplex_bounds.specs.declared.Range.{Range}
+use Rattle.simplex_bounds.specs.Ranges.{range_at, InRange, Stands}
 use Rattle.simplex_core.specs.Checking.{ArePoints, AreStarts}
 use Rattle.simplex_core.proofs.ChoiceLemmas.{value_read, range_read}
 

@@ -7,10 +7,10 @@ use Rattle.fraction128.specs.declared.infinitesimal.Delta.{Delta as Fractions}
 use Rattle.simplex_logic.specs.Forms.{row_of}
 use Rattle.simplex_logic.proofs.Going.{anew_solves, anew_column}
 use Rattle.simplex_table.specs.View.{State, Sound, AreValues, row_at, delta_of, delta_at, deltas}
-use Rattle.simplex_core.specs.declared.bounds.Bound.{Bound}
-use Rattle.simplex_core.specs.declared.bounds.Range.{Range}
+use Rattle.simplex_bounds.specs.declared.Bound.{Bound}
+use Rattle.simplex_bounds.specs.declared.Range.{Range}
 use Rattle.simplex_core.specs.declared.wide.WideAt.{WideAt}
-use Rattle.simplex_core.specs.Ranges.{range_at, InRange, IsStraight, Stands, Ranged}
+use Rattle.simplex_bounds.specs.Ranges.{range_at, InRange, IsStraight, Stands, Ranged}
 use Rattle.simplex_core.specs.Wides.{IsWide, Known}
 use Rattle.simplex_core.specs.Checking.{AreStarts, OwnBounds, Turning, IsEnd, IsWideAtVertex}
 use Rattle.simplex_core.specs.Solving.{IsSolved}

@@ -20,9 +20,9 @@ use Rattle.simplex_logic.proofs.Table.{length_set_ℕ}
 use Rattle.simplex_logic.proofs.Going.{in_column, column_place, anew_solves, anew_column}
 use Rattle.simplex_logic.proofs.Going as Turns
 use Rattle.simplex_table.specs.View.{State, Sound, Exchanged, AreValues, row_at, delta_of, delta_at, deltas}
-use Rattle.simplex_core.specs.declared.bounds.Bound.{Bound}
-use Rattle.simplex_core.specs.declared.bounds.Range.{Range}
-use Rattle.simplex_core.specs.Ranges.{range_at, limit_of, limits_of, InRange, IsStraight, Stands, at_zero, at_low, at_up, Ranged}
+use Rattle.simplex_bounds.specs.declared.Bound.{Bound}
+use Rattle.simplex_bounds.specs.declared.Range.{Range}
+use Rattle.simplex_bounds.specs.Ranges.{range_at, limit_of, limits_of, InRange, IsStraight, Stands, at_zero, at_low, at_up, Ranged}
 use Rattle.simplex_core.specs.Choosing.{IsViolated, too_low, too_high, IsFirstViolated, AllStuck}
 use Rattle.simplex_core.specs.Conflicts.{Certificate, Certifies}
 use Rattle.simplex_core.specs.Wides.{values_of}

@@ -7,7 +7,7 @@ use Rattle.simplex_logic.specs.Quantities.{Basis, Quantity, Vertex}
 use Rattle.simplex_table.specs.View.{State, Sound, WideIn, row_at}
 use Rattle.simplex_table.specs.Causes.{OnWide, op_fits}
 use Rattle.simplex_table.specs.declared.error.TableauError.{TableauError}
-use Rattle.simplex_core.specs.declared.bounds.Bound.{Bound}
+use Rattle.simplex_bounds.specs.declared.Bound.{Bound}
 use Rattle.simplex_core.specs.declared.wide.WideAt.{WideAt}
 use Rattle.simplex_core.specs.declared.wide.Stop.{Stop}
 use Rattle.simplex_core.specs.declared.wide.Stop.TheVariants.{Wide as WideStop, NoMemory as MemoryStop}

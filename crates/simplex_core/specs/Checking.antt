@@ -8,12 +8,12 @@ use Rattle.simplex_logic.specs.Tables.{is_column}
 use Rattle.simplex_logic.specs.Pivoting.{Going, measure}
 use Rattle.simplex_logic.specs.Quantities.{Vertex}
 use Rattle.simplex_table.specs.View.{State, row_at, delta_at}
-use Rattle.simplex_core.specs.declared.bounds.Bound.{Bound}
-use Rattle.simplex_core.specs.declared.bounds.Range.{Range}
+use Rattle.simplex_bounds.specs.declared.Bound.{Bound}
+use Rattle.simplex_bounds.specs.declared.Range.{Range}
 use Rattle.simplex_core.specs.declared.checking.Turn.{Turn}
 use Rattle.simplex_core.specs.declared.checking.Turn.TheVariants.{Done, Conflict, Pivoted}
 use Rattle.simplex_core.specs.declared.wide.WideAt.{WideAt}
-use Rattle.simplex_core.specs.Ranges.{range_at, limits_of, Ranged, InRange, IsStraight, Stands}
+use Rattle.simplex_bounds.specs.Ranges.{range_at, limits_of, Ranged, InRange, IsStraight, Stands}
 use Rattle.simplex_core.specs.Choosing.{AreWithin}
 use Rattle.simplex_core.specs.Conflicts.{IsConflict}
 use Rattle.simplex_core.specs.Wides.{IsWide, Known, values_of}

@@ -5,10 +5,10 @@ use Rattle.rationals.specs.Delta.{Delta, ◌<Δ◌}
 use Rattle.fraction128.specs.declared.infinitesimal.Delta.{Delta as Fractions}
 use Rattle.simplex_logic.specs.Limits.{Limits, Stuck, turned}
 use Rattle.simplex_logic.specs.Vectors.{at}
-use Rattle.simplex_core.specs.declared.bounds.Bound.{Bound}
-use Rattle.simplex_core.specs.declared.bounds.Range.{Range}
+use Rattle.simplex_bounds.specs.declared.Bound.{Bound}
+use Rattle.simplex_bounds.specs.declared.Range.{Range}
 use Rattle.simplex_table.specs.View.{delta_of, delta_at}
-use Rattle.simplex_core.specs.Ranges.{range_at, InRange}
+use Rattle.simplex_bounds.specs.Ranges.{range_at, InRange}
 
 -- b is a bound of the range that x is beyond
 pub data IsViolated (r : Range) (x : Delta) (b : Bound) : Type 0 where

@@ -9,8 +9,8 @@ use Rattle.simplex_logic.specs.Vectors.{at}
 use Rattle.simplex_logic.specs.Concretes.{Allows, at_step, quotient}
 use Rattle.simplex_table.specs.View.{delta_of, delta_at}
 use Rattle.simplex_table.specs.Causes.{op_fits}
-use Rattle.simplex_core.specs.declared.bounds.Bound.{Bound}
-use Rattle.simplex_core.specs.Ranges.{Holds}
+use Rattle.simplex_bounds.specs.declared.Bound.{Bound}
+use Rattle.simplex_bounds.specs.Ranges.{Holds}
 
 -- the operation is too wide on these operands
 pub record WideOn (left right : ℚ) (w : Wide) : Type 0 where

@@ -7,9 +7,9 @@ use Rattle.simplex_logic.specs.Limits.{Limits}
 use Rattle.simplex_logic.specs.Contradictions.{Part, Contradiction, Stops, first_part}
 use Rattle.simplex_logic.proofs.Step.{turned_row}
 use Rattle.simplex_table.specs.View.{delta_of}
-use Rattle.simplex_core.specs.declared.bounds.Bound.{Bound}
-use Rattle.simplex_core.specs.declared.bounds.Range.{Range}
-use Rattle.simplex_core.specs.Ranges.{limits_of, Ranged, Holds}
+use Rattle.simplex_bounds.specs.declared.Bound.{Bound}
+use Rattle.simplex_bounds.specs.declared.Range.{Range}
+use Rattle.simplex_bounds.specs.Ranges.{limits_of, Ranged, Holds}
 use Rattle.simplex_core.specs.Choosing.{AllStuck}
 
 -- the bound of a tag and multiplier is in force, and the part is that bound, so multiplied

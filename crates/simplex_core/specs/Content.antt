@@ -3,8 +3,8 @@ use Rattle.std.specs.Prelude.{ℕ, List, Option, slice_index_or, Contains}
 use Rattle.rationals.specs.Rational.{zero_ℚ}
 use Rattle.rationals.specs.Delta.{Delta, of_ℚ}
 use Rattle.simplex_logic.specs.Forms.{Form, row_of, Solves_Δ}
-use Rattle.simplex_core.specs.declared.bounds.Bound.{Bound}
-use Rattle.simplex_core.specs.Ranges.{Holds}
+use Rattle.simplex_bounds.specs.declared.Bound.{Bound}
+use Rattle.simplex_bounds.specs.Ranges.{Holds}
 
 -- the row that each variable was made with, if any, the bounds in force, those at each mark, and the values that a check found
 pub record Content : Type 0 where

@@ -1,7 +1,7 @@
 -- A simplex's fields as its content.
 use Rattle.std.specs.Prelude.{◌≡◌, ℕ, ◌<◌, ◌≤◌, true, List, None, Some, length, get_or, map, take, Contains, if◌then◌else◌}
 use Rattle.simplex_table.specs.View.{deltas}
-use Rattle.simplex_core.specs.declared.bounds.Bound.{Bound}
+use Rattle.simplex_bounds.specs.declared.Bound.{Bound}
 use Rattle.simplex_core.specs.declared.simplex.Simplex.TheInside.{Inside}
 use Rattle.simplex_core.specs.Content.{Content}
 use Rattle.simplex_core.specs.Solving.{IsFound}

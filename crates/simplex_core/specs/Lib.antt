@@ -1,4 +1,3 @@
-pub mod Ranges
 pub mod Choosing
 pub mod Conflicts
 pub mod Wides

@@ -6,7 +6,7 @@ use Rattle.fraction128.specs.declared.infinitesimal.Delta.{Delta as Fractions}
 use Rattle.simplex_logic.specs.Forms.{Form, row_of, Below}
 use Rattle.simplex_logic.specs.Quantities.{In}
 use Rattle.simplex_table.specs.View.{State, delta_at, deltas}
-use Rattle.simplex_core.specs.declared.bounds.Bound.{Bound}
+use Rattle.simplex_bounds.specs.declared.Bound.{Bound}
 use Rattle.simplex_core.specs.Conflicts.{IsConflict}
 use Rattle.simplex_core.specs.Content.{IsSolution}
 use Rattle.simplex_core.specs.Wides.{values_of}

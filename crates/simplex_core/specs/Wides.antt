@@ -8,7 +8,7 @@ use Rattle.simplex_table.specs.View.{State, Sound, delta_of}
 use Rattle.simplex_table.specs.Causes.{op_fits}
 use Rattle.simplex_table.specs.declared.error.TableauError.{TableauError}
 use Rattle.simplex_table.specs.declared.error.TableauError.TheVariants.{Wide as TooWide}
-use Rattle.simplex_core.specs.declared.bounds.Bound.{Bound}
+use Rattle.simplex_bounds.specs.declared.Bound.{Bound}
 use Rattle.simplex_core.specs.declared.wide.WideAt.{WideAt}
 use Rattle.simplex_core.specs.declared.wide.Stop.{Stop}
 use Rattle.simplex_core.specs.declared.wide.Stop.TheVariants.{Wide as WideStop, NoMemory as MemoryStop}

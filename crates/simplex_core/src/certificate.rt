@@ -1,13 +1,12 @@
 //! Multipliers of bounds whose sum is a contradiction.
 
 ghost use Rattle.std.specs.Prelude.{◌≡◌, ◌<◌, ℕ, length, slice_index, IfSome, IfNone, Some, None, IfOk};
-ghost use Rattle.rationals.specs.Rational.{one_ℚ};
 ghost use Rattle.simplex_core.specs.Conflicts.{IsStop, Certifies, IsPair, ConflictsRefute};
 
-use crate::bounds::{Bound, Range};
 use crate::choice::{oriented, sign};
 use crate::lists::Multipliers;
 use fraction128::Frac;
+use simplex_bounds::{Bound, Range};
 use std::alloc::{AllocError, Global};
 use std::cmp::Ordering;
 

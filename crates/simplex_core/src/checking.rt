@@ -1,23 +1,23 @@
 //! The turns of a check: the first variable beyond a limit leaves the basis, and the first column that repairs its row
 //! enters, until no variable is beyond a limit or no column repairs the row.
 
-ghost use Rattle.std.specs.Prelude.{◌≡◌, ◌≢◌, ◌<◌, ◌++◌, ◌∷◌, [], ℕ, List, Bool, not, length, slice_index, IfOk, IfErr, OnOk, OnErr, replicate, false};
+ghost use Rattle.std.specs.Prelude.{◌≡◌, ◌≢◌, ◌<◌, ℕ, not, length, slice_index, IfOk, IfErr, OnOk, OnErr, replicate, false};
 ghost use Rattle.rationals.specs.Rational.{zero_ℚ};
 ghost use Rattle.simplex_logic.specs.Limits.{First};
 ghost use Rattle.simplex_logic.specs.Tables.{is_column};
 ghost use Rattle.simplex_logic.specs.Vectors.{at};
 ghost use Rattle.simplex_table.specs.View.{row_at, deltas, delta_at, AreValues, Exchanged};
-ghost use Rattle.simplex_core.specs.Ranges.{limits_of, range_at, IsStraight};
+ghost use Rattle.simplex_bounds.specs.Ranges.{limits_of, range_at, IsStraight};
 ghost use Rattle.simplex_core.specs.Choosing.{IsFirstViolated};
 ghost use Rattle.simplex_core.specs.Wides.{OnStop};
 ghost use Rattle.simplex_core.specs.Checking.{marks_after, ArePoints, AreStarts, Turning, turns_left, IsTurn, IsEnd, IsWideIn, IsWideAtVertex, IsWideAnyway};
 
-use crate::bounds::{Bound, Range};
 use crate::certificate::certificate;
 use crate::choice::{first_moving, first_violated};
 use crate::lists::Multipliers;
 use crate::wide::{Stop, stop_at};
 use fraction128::Delta;
+use simplex_bounds::{Bound, Range};
 use simplex_table::Tableau;
 use std::alloc::{AllocError, Global};
 use std::marker::Model;

@@ -1,16 +1,16 @@
 //! Which variable is beyond a limit, and which column can repair its row.
 
-ghost use Rattle.std.specs.Prelude.{◌≡◌, ◌<◌, ℕ, List, length, slice_index, IfSome, IfNone};
+ghost use Rattle.std.specs.Prelude.{◌≡◌, ◌<◌, ℕ, length, slice_index, IfSome, IfNone};
 ghost use Rattle.std.specs.Bool.{OnTrue, OnFalse};
 ghost use Rattle.std.specs.Ordering.{MatchOrdering};
 ghost use Rattle.rationals.specs.Rational.{zero_ℚ, ◌<ℚ◌};
 ghost use Rattle.simplex_logic.specs.Limits.{Moves, Stuck, CanRise, CanFall, Full, Empty, First, turned};
 ghost use Rattle.simplex_table.specs.View.{delta_of, delta_at};
-ghost use Rattle.simplex_core.specs.Ranges.{limit_of, limits_of, InRange};
+ghost use Rattle.simplex_bounds.specs.Ranges.{limit_of, limits_of, InRange};
 ghost use Rattle.simplex_core.specs.Choosing.{IsViolated, IsFirstViolated, AreWithin, AllStuck};
 
-use crate::bounds::{Bound, Range, is_below};
 use fraction128::{Delta, Frac};
+use simplex_bounds::{Bound, Range, is_below};
 use std::cmp::Ordering;
 
 /// The bound of the range that a number is beyond.

@@ -1,17 +1,17 @@
 //! Fractions in place of numbers with an infinitesimal part, by one step that is small enough for every bound.
 
-ghost use Rattle.std.specs.Prelude.{◌≡◌, ◌≢◌, ◌<◌, ℕ, length, Contains, IfOk, IfErr};
+ghost use Rattle.std.specs.Prelude.{◌≡◌, Contains, IfOk, IfErr};
 ghost use Rattle.std.specs.Bool.{OnTrue, OnFalse};
 ghost use Rattle.rationals.specs.Rational.{◌<ℚ◌, ◌≤ℚ◌, ◌-ℚ◌};
 ghost use Rattle.simplex_logic.specs.Concretes.{at_step};
 ghost use Rattle.simplex_table.specs.View.{delta_of, delta_at};
 ghost use Rattle.simplex_table.specs.Causes.{OnWide};
-ghost use Rattle.simplex_core.specs.declared.bounds.Bound.{Bound};
-ghost use Rattle.simplex_core.specs.Ranges.{Holds};
+ghost use Rattle.simplex_bounds.specs.declared.Bound.{Bound};
+ghost use Rattle.simplex_bounds.specs.Ranges.{Holds};
 ghost use Rattle.simplex_core.specs.Concrete.{IsDifferenceWide, IsLargest, IsStepWide, low_of, high_of, IsCommonStep, IsBoundWide, IsValueWide, AreConcrete, IsSomeValueWide, IsLeast};
 
-use crate::bounds::{Bound, zero};
 use fraction128::{Delta, Frac, Wide};
+use simplex_bounds::{Bound, zero};
 use simplex_table::TableauError;
 use std::alloc::Global;
 use std::cmp::Ordering;

@@ -2,7 +2,6 @@
 //! multipliers of bounds whose sum is a contradiction, or by an operation that is too wide.
 #![tactic(auto)]
 
-mod bounds;
 mod certificate;
 mod checking;
 mod choice;

@@ -1,10 +1,10 @@
 //! The simplex, as its callers see it.
 
-ghost use Rattle.std.specs.Prelude.{◌≡◌, ◌↔◌, IsTrue, ◌<◌, ◌++◌, ◌∷◌, [], ℕ, List, Bool, false, true, None, Some, length, All, Contains, IfOk, IfErr, OnOk, OnErr, IsSomeAnd, IsSome};
+ghost use Rattle.std.specs.Prelude.{◌≡◌, ◌↔◌, IsTrue, ◌<◌, ◌++◌, ◌∷◌, [], ℕ, List, false, true, None, Some, length, All, Contains, IfOk, IfErr, OnOk, OnErr, IsSomeAnd, IsSome};
 ghost use Rattle.rationals.specs.Delta.{Delta as Infinitesimal};
 ghost use Rattle.simplex_logic.specs.Forms.{row_of};
 ghost use Rattle.simplex_table.specs.View.{form_of, delta_of};
-ghost use Rattle.simplex_core.specs.declared.bounds.Bound.{Bound};
+ghost use Rattle.simplex_bounds.specs.declared.Bound.{Bound};
 ghost use Rattle.rationals.specs.Rational.{ℚ};
 ghost use Rattle.simplex_core.specs.declared.wide.WideAt.{WideAt};
 ghost use Rattle.simplex_core.specs.Conflicts.{IsConflict};
@@ -13,13 +13,13 @@ ghost use Rattle.simplex_core.specs.Content.{IsSolution, value_in};
 ghost use Rattle.simplex_core.specs.Solving.{IsSolved};
 ghost use Rattle.simplex_core.specs.Concrete.{IsConcrete};
 
-use crate::bounds::{Bound, first_crossing, ranges_of};
 use crate::certificate::pair;
 use crate::checking::{NoneSpent, Progress, anew, repair, starts};
 use crate::concrete::{common_step, concrete_values, value_of};
 use crate::lists::{Fracs, Multipliers};
 use crate::wide::{Stop, WideAt, stop_at, wide_at};
 use fraction128::{Delta, Frac};
+use simplex_bounds::{Bound, first_crossing, ranges_of};
 use simplex_table::Tableau;
 use std::alloc::{AllocError, Global};
 use std::marker::Model;

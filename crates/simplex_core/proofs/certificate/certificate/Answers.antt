@@ -4,7 +4,7 @@ use Rattle.std.specs.Prelude.{not}
 use Rattle.rationals.specs.Rational.{zero_ℚ}
 use Rattle.simplex_logic.specs.Limits.{turned}
 use Rattle.simplex_logic.specs.Vectors.{at}
-use Rattle.simplex_core.specs.Ranges.{range_at}
+use Rattle.simplex_bounds.specs.Ranges.{range_at}
 use Rattle.simplex_core.specs.Conflicts.{IsStop, Certifies}
 use Rattle.simplex_core.proofs.ChoiceLemmas.{range_read}
 use Rattle.simplex_core.proofs.ConflictLemmas.{certifies_none, certifies_next, certifies_all, listed}

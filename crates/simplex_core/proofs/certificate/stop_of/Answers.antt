@@ -1,6 +1,6 @@
 use Rattle.std.proofs.Common.{◌≡◌, Some, subst}
 use Rattle.std.specs.Prelude.{IfSome}
-use Rattle.simplex_core.specs.declared.bounds.Bound.{Bound}
+use Rattle.simplex_bounds.specs.declared.Bound.{Bound}
 use Rattle.simplex_core.proofs.ConflictLemmas.{stop_up_is, stop_low_is}
 use Rattle.simplex_core.proofs.certificate.stop_of.Goals as goal
 

@@ -1,7 +1,7 @@
 use Rattle.std.proofs.Common.{ap, sym, ◌∙◌, subst, length}
 use Rattle.std.specs.Prelude.{not}
 use Rattle.simplex_table.specs.View.{delta_at}
-use Rattle.simplex_core.specs.Ranges.{limits_of}
+use Rattle.simplex_bounds.specs.Ranges.{limits_of}
 use Rattle.simplex_core.specs.Choosing.{IsFirstViolated, AllStuck}
 use Rattle.simplex_core.proofs.TurnLemmas.{violated_below, turn_conflict}
 use Rattle.simplex_core.proofs.checking.take_turn.Goals as goal

@@ -3,7 +3,7 @@ use Rattle.std.proofs.Common.{ℕ, ◌<◌, get_or}
 use Rattle.simplex_logic.specs.Limits.{Stuck, turned}
 use Rattle.simplex_logic.specs.Vectors.{at}
 use Rattle.simplex_table.specs.View.{delta_at}
-use Rattle.simplex_core.specs.Ranges.{limits_of}
+use Rattle.simplex_bounds.specs.Ranges.{limits_of}
 use Rattle.simplex_core.proofs.choice.first_moving.Given as goal
 
 abbrev pub invariant-loop-k : goal.invariant-loop-k

@@ -1,7 +1,7 @@
 -- the values passed are in their ranges
 use Rattle.std.proofs.Common.{ℕ, ◌<◌}
 use Rattle.simplex_table.specs.View.{delta_at}
-use Rattle.simplex_core.specs.Ranges.{range_at, InRange}
+use Rattle.simplex_bounds.specs.Ranges.{range_at, InRange}
 use Rattle.simplex_core.proofs.choice.first_violated.Given as goal
 
 abbrev pub invariant-loop-v : goal.invariant-loop-v

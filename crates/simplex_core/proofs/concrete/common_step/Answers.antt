@@ -1,7 +1,7 @@
 use Rattle.std.proofs.Common.{subst, arith}
 use Rattle.simplex_core.specs.Concrete.{IsStepWide, low_of, high_of}
 use Rattle.simplex_table.specs.View.{delta_of}
-use Rattle.simplex_core.proofs.RangeLemmas.{listed_at}
+use Rattle.simplex_bounds.proofs.RangeLemmas.{listed_at}
 use Rattle.simplex_core.proofs.ConcreteLemmas.{first_step, step_next}
 use Rattle.simplex_core.proofs.concrete.common_step.Goals as goal
 

@@ -3,7 +3,7 @@ use Rattle.std.specs.Prelude.{replicate}
 use Rattle.std.proofs.lemmas.Result.{err_from_is_err_and}
 use Rattle.simplex_logic.specs.Forms.{row_of}
 use Rattle.simplex_table.specs.View.{deltas, AreValues}
-use Rattle.simplex_core.specs.Ranges.{Ranged, Crosses, IsStraight, range_at}
+use Rattle.simplex_bounds.specs.Ranges.{Ranged, Crosses, IsStraight, range_at}
 use Rattle.simplex_core.specs.Wides.{OnStop, IsWide, Known}
 use Rattle.simplex_core.specs.Checking.{AreStarts, IsWideAtVertex, IsWideIn, Turning}
 use Rattle.simplex_core.proofs.WideLemmas.{on_stop}

@@ -3,7 +3,7 @@ use Rattle.simplex_core.specs.Solving.{IsFound, IsSolved}
 use Rattle.simplex_core.proofs.TurnLemmas.{no_false}
 use Rattle.simplex_core.proofs.ContentLemmas.{known_rows}
 use Rattle.std.specs.Prelude.{Contains}
-use Rattle.simplex_core.specs.declared.bounds.Bound.{Bound}
+use Rattle.simplex_bounds.specs.declared.Bound.{Bound}
 use Rattle.simplex_core.proofs.simplex.Simplex.check.Goals as goal
 
 pub solve-requires : goal.solve-requires

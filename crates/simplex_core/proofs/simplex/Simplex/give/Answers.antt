@@ -1,5 +1,5 @@
 use Rattle.std.proofs.Common.{◌≡◌, ◌<◌, ◌≤◌, ◌++◌, ◌∷◌, [], List, None, ap, sym, subst, length, length-append, arith}
-use Rattle.simplex_core.specs.declared.bounds.Bound.{Bound}
+use Rattle.simplex_bounds.specs.declared.Bound.{Bound}
 use Rattle.simplex_core.specs.Content.{Content}
 use Rattle.simplex_core.specs.Inside.{saved_of, Rising}
 use Rattle.std.specs.Prelude.{Contains}

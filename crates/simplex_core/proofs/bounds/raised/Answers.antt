@@ -1,6 +1,0 @@
-use Rattle.std.proofs.Common.{refl}
-use Rattle.simplex_core.specs.Ranges.{from_low}
-use Rattle.simplex_core.proofs.bounds.raised.Goals as goal
-
-pub returns-then-is_below-clause-stands : goal.returns-then-is_below-clause-stands
-returns-then-is_below-clause-stands c = from_low c.in-Some.bound c.in-Some.is refl
