@@ -12,16 +12,18 @@ use Rattle.yices_grammar.specs.Words.{is_bad_token}
 use Rattle.yices_grammar.specs.Language.{BeginsProgram}
 use Rattle.yices_grammar.specs.Beginning.{begins}
 use Rattle.yices_grammar.specs.Faults.{FaultKind, bad_byte, bad_literal, unexpected, end_of_input, nesting, not_built, IsNext, IsNextToken, BeginsBuilt, Fails, HasFault}
-use Rattle.yices_text.specs.Pieces.{bad, ends, break_of}
+use Rattle.yices_lexer.specs.Pieces.{bad, ends, break_of}
 use Rattle.yices_text.specs.Machine.{State, Moved, between, step, run, after, depth}
 use Rattle.yices_text.specs.Leading.{left_of}
 use Rattle.yices_text.specs.States.{is_too_deep, no_step, token_fault}
-use Rattle.yices_text.specs.Progress.{IsReached, IsPieceOf}
-use Rattle.yices_text.proofs.Cutting.{cond_yes, cond_no}
+use Rattle.yices_lexer.specs.Found.{IsPieceOf}
+use Rattle.yices_text.specs.Progress.{IsReached}
+use Rattle.yices_lexer.proofs.Cutting.{cond_yes, cond_no}
 use Rattle.yices_text.proofs.Running.{run_append, commands_spelled}
 use Rattle.yices_text.proofs.Building.{Parts, run_parts, depth_behind, step_depth, after_some}
 use Rattle.yices_text.proofs.Leading.{begins_program, no_program}
-use Rattle.yices_text.proofs.Judging.{fault_at, break_bad_byte, break_ends}
+use Rattle.yices_text.proofs.Judging.{fault_at}
+use Rattle.yices_lexer.proofs.Breaking.{break_bad_byte, break_ends}
 
 -- the depth behind some tokens
 pub depths : ℕ → List Lexeme → ℕ

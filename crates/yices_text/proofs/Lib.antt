@@ -1,6 +1,3 @@
-pub mod Cutting
-pub mod Finding
-pub mod Strings
 pub mod Leading
 pub mod Judging
 pub mod Running
@@ -13,5 +10,4 @@ pub mod Holding
 pub mod Piecing
 pub mod Stepping
 pub mod Refusing
-pub mod Expecting
 pub mod Positioning

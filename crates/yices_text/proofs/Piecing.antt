@@ -9,7 +9,7 @@ use Rattle.yices_grammar.specs.Faults.{HasFault}
 use Rattle.yices_text.specs.Laws.{CommandsStay, OneList, FaultsStay}
 use Rattle.yices_text.specs.Machine.{Moved, between, run, after}
 use Rattle.yices_text.specs.View.{joined}
-use Rattle.yices_text.proofs.Cutting.{compare_cuts, tokens_append}
+use Rattle.yices_lexer.proofs.Cutting.{compare_cuts, tokens_append}
 use Rattle.yices_text.proofs.Running.{run_append, run_shift, commands_spelled}
 use Rattle.yices_text.proofs.Building.{after_some}
 use Rattle.yices_text.proofs.Unique.{nothing_behind}

@@ -5,7 +5,7 @@ use Rattle.std.proofs.lemmas.Bool.{le-leb, lt-leb, leb-true, leb-false}
 use Rattle.std.proofs.lemmas.List.{length-reverse, length-map}
 use Rattle.yices_grammar.specs.declared.Place.{Place}
 use Rattle.yices_grammar.specs.Tokens.{Lexeme, open_bracket}
-use Rattle.yices_grammar.specs.Language.{expression, one, many, closing}
+use Rattle.yices_grammar.specs.Language.{expression, one, part, many, closing}
 use Rattle.yices_grammar.specs.Beginning.{begins}
 use Rattle.yices_text.specs.declared.state.Frame.{Frame}
 use Rattle.yices_text.specs.declared.state.Purpose.{Purpose}
@@ -16,7 +16,15 @@ use Rattle.yices_text.specs.Machine as machine
 use Rattle.yices_text.specs.Leading.{left_of}
 use Rattle.yices_text.specs.Positions.{left_at}
 use Rattle.yices_text.specs.States.{plain_frame, plain_frames, plain_state, is_too_deep}
-use Rattle.yices_text.proofs.Expecting.{argument_begins, whole_begins}
+
+-- behind an expression that hasn't begun, and among the arguments of an operation
+whole_begins : (p : Place) (g : machine.Purpose) (fs : List machine.Frame) (l : Lexeme) → fs ≡ [] → begins (left_of (machine.operand p g fs)) l ≡ begins (part expression ∷ []) l
+unfolding left_of
+whole_begins p g fs l h = rw h refl
+
+argument_begins : (p : Place) (g : machine.Purpose) (f : machine.Frame) (fs : List machine.Frame) (l : Lexeme) → begins (left_of (machine.operand p g (f ∷ fs))) l ≡ begins (many expression ∷ one closing ∷ []) l
+unfolding left_of
+argument_begins p g f fs l = refl
 
 frames_length : (fs : List Frame) → length (plain_frames fs) ≡ length fs
 frames_length fs = length-reverse (map plain_frame fs) ∙ length-map fs plain_frame

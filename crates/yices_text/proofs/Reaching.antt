@@ -9,17 +9,19 @@ use Rattle.yices_grammar.specs.Tokens.{Lexeme, open_bracket, close_bracket, typi
 use Rattle.yices_grammar.specs.Grammar.{Command, is_name, is_among, built_operators}
 use Rattle.yices_grammar.specs.Texts.{IsShallow, AreCommands, Reads, BeginsWith, lexemes}
 use Rattle.yices_grammar.specs.Faults.{FaultKind, bad_byte, bad_literal, unexpected, end_of_input, nesting, not_built, Fault, IsLoneColon, IsBadByte, IsNext, IsNextToken, Fails, HasFault}
-use Rattle.yices_text.specs.Pieces.{first_cut}
+use Rattle.yices_lexer.specs.Pieces.{first_cut}
 use Rattle.yices_text.specs.Machine.{to_define, State, between, opened, defining, named, typing, typed, operand, operator, echoing, closing, Moved, goes, attach, command_state, word_expr, step_command, step, after, run, depth}
 use Rattle.yices_text.specs.States.{is_too_deep}
-use Rattle.yices_text.specs.Progress.{IsReached, IsPieceOf, IsBlank, MayGrow, IsOpen}
+use Rattle.yices_lexer.specs.Found.{IsPieceOf, IsBlank, MayGrow, IsOpen}
+use Rattle.yices_text.specs.Progress.{IsReached}
 use Rattle.yices_text.specs.View.{HoldsNoMore}
 use Rattle.yices_text.specs.Leads.{Waits}
-use Rattle.yices_text.proofs.Cutting.{cut_first, same_cut, compare_cuts, cuts_append, tokens_append, end_append}
+use Rattle.yices_lexer.proofs.Cutting.{cut_first, same_cut, compare_cuts, cuts_append, tokens_append, end_append}
 use Rattle.yices_text.proofs.Running.{run_append, commands_spelled}
 use Rattle.yices_text.proofs.Building.{commands_sound, after_some, attach_some, goes_some}
 use Rattle.yices_text.proofs.Faulting.{shallow_append, within_shallow, depth_here}
-use Rattle.yices_text.proofs.Judging.{verdict, piece_verdict, break_verdict, break_cut, bad_byte_break}
+use Rattle.yices_text.proofs.Judging.{verdict, piece_verdict, break_verdict}
+use Rattle.yices_lexer.proofs.Breaking.{break_cut, bad_byte_break}
 use Rattle.yices_text.proofs.Unique.{Behind, fault_state, fault_behind, fault_verdict, not_before, cuts_behind, nothing_behind, run_grows}
 
 pub reached_start : IsReached false [] 0 start [] between

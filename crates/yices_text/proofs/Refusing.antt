@@ -12,7 +12,7 @@ use Rattle.yices_text.specs.Machine as machine
 use Rattle.yices_text.specs.Leading.{left_of}
 use Rattle.yices_text.specs.States.{is_too_deep, no_step, token_fault}
 use Rattle.yices_text.specs.View.{fault_of}
-use Rattle.yices_text.proofs.Cutting.{cond_yes, cond_no}
+use Rattle.yices_lexer.proofs.Cutting.{cond_yes, cond_no}
 
 -- the error that stands for a fault of that kind at the place says that the token is so
 pub error_is : (s : machine.State) (at : Place) (l : Lexeme) (e : ReadError) (k : FaultKind) → fault_of e ≡ Some (record { kind = k; place = at }) → token_fault s at l ≡ Some k

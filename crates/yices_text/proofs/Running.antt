@@ -8,7 +8,7 @@ use Rattle.yices_grammar.specs.declared.Place.{Place}
 use Rattle.yices_grammar.specs.Tokens.{Token, content_bytes}
 use Rattle.yices_grammar.specs.Grammar.{Expr, Exprs, true_word, false_word, name, operation, none, more, exprs, Action, declare, define, assert, check, push, pop, reset, show_model, eval, echo, exit, Command, is_name, is_among, term_words, begins_as_literal, word_at, opened_at, closed_at, typing_at, string_at, Spells, SpellsAll, SpellsAction, SpellsCommand, SpellsCommands}
 use Rattle.yices_text.specs.Machine.{Frame, Purpose, to_define, to_assert, to_eval, State, between, opened, defining, named, typing, typed, operand, operator, echoing, closing, goes, goes_to, attach, command_state, step_command, word_expr, attach_word, step, after, run}
-use Rattle.yices_text.proofs.Cutting.{or_false}
+use Rattle.yices_lexer.proofs.Cutting.{or_false}
 
 -- one run after another
 pub run_append : (cs : List Command) (s : State) (a b : List Token) → run cs s (a ++ b) ≡ after (run cs s a) (λ m. run m.commands m.state b)

@@ -1,19 +1,17 @@
 -- A piece more of a text, in the code's words.
-use Rattle.std.proofs.Common.{◌≡◌, ◌∙◌, ℕ, suc, ◌+◌, ◌-◌, ◌≤◌, Bool, true, false, Some, None, Option, Ok, Err, List, [], ◌∷◌, ◌++◌, length, take, drop, refl, sym, ap, subst, inl, inr, arith, append-nil}
-use Rattle.std.specs.Prelude.{◌==◌}
-use Rattle.std.proofs.lemmas.Bool.{both_ways, cases_Bool}
+use Rattle.std.proofs.Common.{◌≡◌, ◌∙◌, ℕ, ◌+◌, ◌-◌, ◌≤◌, Bool, true, false, Some, Ok, Err, List, [], ◌∷◌, ◌++◌, length, take, drop, refl, sym, ap, subst, inl, append-nil}
+use Rattle.std.proofs.lemmas.Bool.{both_ways}
 use Rattle.std.proofs.lemmas.List.{take_rest, length-take-le, drop_all}
-use Rattle.std.proofs.lemmas.Option.{none-some, same_Some}
+use Rattle.std.proofs.lemmas.Option.{same_Some}
 use Rattle.yices_grammar.specs.declared.Place.{Place}
 use Rattle.yices_grammar.specs.Tokens.{token, Piece, place_behind}
 use Rattle.yices_grammar.specs.Grammar.{Command}
 use Rattle.yices_grammar.specs.Texts.{Reads}
-use Rattle.yices_grammar.specs.Faults.{FaultKind, bad_byte, end_of_input, HasFault, begins_nothing}
-use Rattle.yices_text.specs.declared.lexer.Lexeme as code
-use Rattle.yices_text.specs.declared.lexer.Lexeme.TheVariants as lexeme
-use Rattle.yices_text.specs.declared.lexer.Found.TheVariants as found
+use Rattle.yices_grammar.specs.Faults.{FaultKind, bad_byte, end_of_input, HasFault}
+use Rattle.yices_lexer.specs.declared.lexer.Lexeme as code
+use Rattle.yices_lexer.specs.declared.lexer.Found.TheVariants as found
 use Rattle.yices_text.specs.declared.error.ReadError.{ReadError}
-use Rattle.yices_text.specs.Pieces.{Break, bad, ends, string_break, colon_break, scan, Scan, closed, broken, unclosed, first_cut, break_of}
+use Rattle.yices_lexer.specs.Pieces.{first_cut, break_of}
 use Rattle.yices_text.specs.Machine.{State, Moved, between, step, depth}
 use Rattle.yices_text.specs.States.{is_too_deep, Stepped, plain_state, plain_step}
 use Rattle.yices_text.specs.Plain.{plain_command}
@@ -26,64 +24,11 @@ use Rattle.yices_text.specs.declared.state.Step.TheVariants as made
 use Rattle.yices_text.specs.Leads.{Waits, IsFaultOf, LeadsOn}
 use Rattle.yices_text.specs.declared.scan.Progress.{Progress}
 use Rattle.yices_text.specs.declared.scan.Progress.TheVariants as progress
-use Rattle.yices_text.specs.Progress.{IsReached, IsPieceOf, IsOpen}
-use Rattle.yices_text.specs.Found.{IsFound, plain_lexeme, IsGoodString}
-use Rattle.yices_text.proofs.Cutting.{cond_yes, cond_no}
-use Rattle.yices_text.proofs.Strings.{scan_broken}
+use Rattle.yices_text.specs.Progress.{IsReached}
+use Rattle.yices_lexer.specs.Found.{IsPieceOf, IsOpen, IsFound, plain_lexeme}
 use Rattle.yices_text.proofs.Judging.{fault_at}
 use Rattle.yices_text.proofs.Faulting.{fault_token, fault_bytes, fault_string, fault_end}
 use Rattle.yices_text.proofs.Reaching.{reached_blank, reached_token, reached_rests, reached_whole}
-
--- a string that was found has a content
-pub good_string : (finished : Bool) (text : List ℕ) (l : code.Lexeme) (n : ℕ) → IsFound finished text (found.Token l n) → IsGoodString l
-good_string finished text lexeme.Open n q = tt
-good_string finished text lexeme.Close n q = tt
-good_string finished text lexeme.Mark n q = tt
-good_string finished text (lexeme.Word w) n q = tt
-good_string finished text (lexeme.Quoted s) n q = (q.firm [] (λ _. refl)).2
-
--- the byte that nothing can hold is one of the text
-bad_index : Option Break → ℕ
-bad_index (Some (bad k)) = k
-bad_index (Some ends) = 0
-bad_index None = 0
-
-unfolding_bad : (n k : ℕ) → Some (bad n) ≡ Some (bad k) → n ≡ k
-unfolding bad_index
-unfolding_bad n k h = ap bad_index h
-
-pub bad_within : (finished : Bool) (text : List ℕ) (k : ℕ) → break_of finished text ≡ Some (bad k) → k ≤ length text
-unfolding break_of
-bad_within finished [] k h = absurd (none-some (bad k) h)
-bad_within finished (b ∷ bs) k h = elim (cases_Bool (b == 34)) [
-  | inl e ↦ quoted (scan false bs) refl (sym (cond_yes (b == 34) _ _ e) ∙ h)
-  | inr e ↦ elim (cases_Bool (b == 58)) [
-    | inl f ↦ colon finished bs (sym (cond_no (b == 34) _ _ e ∙ cond_yes (b == 58) _ _ f) ∙ h)
-    | inr f ↦ elim (cases_Bool (begins_nothing b)) [
-      | inl n ↦ let z = unfolding_bad 0 k (sym (cond_no (b == 34) _ _ e ∙ cond_no (b == 58) _ _ f ∙ cond_yes (begins_nothing b) _ _ n) ∙ h) in omega arith
-      | inr n ↦ absurd (none-some (bad k) (sym (cond_no (b == 34) _ _ e ∙ cond_no (b == 58) _ _ f ∙ cond_no (begins_nothing b) _ _ n) ∙ h))
-    ]
-  ]
-]
-  where
-    quoted : (x : Scan) → scan false bs ≡ x → string_break finished x ≡ Some (bad k) → k ≤ length (b ∷ bs)
-    quoted (closed n) e j = absurd (none-some (bad k) j)
-    quoted (broken n) e j = let z = unfolding_bad (suc n) k j in omega (arith, (scan_broken false bs n e).within)
-    quoted unclosed e j = elim (cases_Bool finished) [
-      | inl y ↦ let same : ends ≡ bad k = same_Some ends (bad k) (sym (cond_yes finished _ _ y) ∙ j) in cc same
-      | inr y ↦ absurd (none-some (bad k) (sym (cond_no finished _ _ y) ∙ j))
-    ]
-
-    colon : (f : Bool) (t : List ℕ) → colon_break f t ≡ Some (bad k) → k ≤ length (b ∷ bs)
-    colon true [] j = let z = unfolding_bad 0 k j in omega arith
-    colon false [] j = absurd (none-some (bad k) j)
-    colon f (c ∷ t) j = elim (cases_Bool (c == 58)) [
-      | inl y ↦ absurd (none-some (bad k) (sym (cond_yes (c == 58) _ _ y) ∙ j))
-      | inr y ↦ let z = unfolding_bad 0 k (sym (cond_no (c == 58) _ _ y) ∙ j) in omega arith
-    ]
-
-pub bad_index_is : (finished : Bool) (text : List ℕ) (k : ℕ) → break_of finished text ≡ Some (bad k) → k ≡ length (take k text)
-bad_index_is finished text k h = sym (length-take-le k text (bad_within finished text k h))
 
 -- an error that stands for the fault
 pub error_of : (finished : Bool) (fed : List ℕ) (answered : List Command) (e : ReadError) (k : FaultKind) (at : Place) → fault_of e ≡ Some (fault_at at k) → HasFault finished fed answered (fault_at at k) → IsFaultOf finished fed answered e

@@ -19,7 +19,7 @@ use Rattle.yices_text.specs.Machine as machine
 use Rattle.yices_text.specs.Plain.{plain, plain_action}
 use Rattle.yices_text.specs.Codes.{plain-roll, plain_form-True, plain_form-False, plain_form-Name, plain_form-Op}
 use Rattle.yices_text.specs.States.{plain_frame, plain_frames, plain_purpose, plain_state, Takes, Attaches, IsWordExpr}
-use Rattle.yices_text.proofs.Cutting.{cond_yes, cond_no}
+use Rattle.yices_lexer.proofs.Cutting.{cond_yes, cond_no}
 
 pub word_true : (at : Place) (w : List ℕ) → bytes_eq w (codes "true") ≡ true → IsWordExpr at w (Ok (Some (roll-Expr (record { place = at; form = form.True }))))
 unfolding machine.word_expr

@@ -12,15 +12,16 @@ use Rattle.yices_grammar.specs.Words.{is_bad_token}
 use Rattle.yices_grammar.specs.Language.{BeginsProgram}
 use Rattle.yices_grammar.specs.Beginning.{begins}
 use Rattle.yices_grammar.specs.Faults.{FaultKind, bad_byte, bad_literal, unexpected, end_of_input, nesting, not_built, Fault, IsNext, BeginsBuilt, Fails, IsPart, HasFault}
-use Rattle.yices_text.specs.Pieces.{Cut, first_cut, Break, bad, ends, break_of}
+use Rattle.yices_lexer.specs.Pieces.{Cut, first_cut, Break, bad, ends, break_of}
 use Rattle.yices_text.specs.Machine.{State, Moved, between, opened, defining, named, typing, typed, operand, operator, echoing, closing, step, run, after, depth}
 use Rattle.yices_text.specs.Leading.{left_of}
 use Rattle.yices_text.specs.States.{is_too_deep, no_step, token_fault}
-use Rattle.yices_text.proofs.Cutting.{cond_yes, cond_no, cut_first, compare_cuts, tokens_append}
+use Rattle.yices_lexer.proofs.Cutting.{cond_yes, cond_no, cut_first, compare_cuts, tokens_append}
 use Rattle.yices_text.proofs.Running.{run_append, run_shift, commands_spelled, command_spelled}
 use Rattle.yices_text.proofs.Building.{run_parts, commands_sound, after_some, spells_append}
 use Rattle.yices_text.proofs.Leading.{begins_program, no_program, runs_program, step_good}
-use Rattle.yices_text.proofs.Judging.{fault_at, verdict, piece_verdict, break_verdict, break_cut, bad_byte_break, open_string_break}
+use Rattle.yices_text.proofs.Judging.{fault_at, verdict, piece_verdict, break_verdict}
+use Rattle.yices_lexer.proofs.Breaking.{break_cut, bad_byte_break, open_string_break}
 use Rattle.yices_text.proofs.Faulting.{depths, shallow_rest, shallow_append, depth_here, shallow_within, within_shallow}
 
 -- the text is cut so, and its tokens are the commands and what the state says

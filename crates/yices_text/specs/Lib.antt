@@ -1,4 +1,3 @@
-pub mod Pieces
 pub mod Machine
 pub mod Leading
 pub mod Positions
@@ -6,7 +5,6 @@ pub mod Plain
 pub mod View
 pub mod Progress
 pub mod Codes
-pub mod Found
 pub mod States
 pub mod Leads
 pub mod Sound

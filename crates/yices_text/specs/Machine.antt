@@ -1,5 +1,5 @@
 -- A machine that takes the tokens of commands one by one.
-use Rattle.std.specs.Prelude.{ℕ, ◌+◌, ◌<◌, Option, Some, None, List, [], ◌∷◌, ◌++◌, length, codes, if◌then◌else◌}
+use Rattle.std.specs.Prelude.{ℕ, ◌+◌, Option, Some, None, List, [], ◌∷◌, ◌++◌, length, codes, if◌then◌else◌}
 use Rattle.std.specs.Str.{bytes_eq}
 use Rattle.yices_grammar.specs.declared.Place.{Place}
 use Rattle.yices_grammar.specs.Tokens.{Lexeme, open_bracket, close_bracket, typing_mark, word, string, Token, content_bytes}
@@ -147,11 +147,3 @@ depth (operand p g fs) = 1 + length fs
 depth (operator p g fs o) = 2 + length fs
 depth (echoing p) = 1
 depth (closing p a) = 1
-
--- the bracket limit at a token, where so many brackets are open
-abbrev pub IsWithin : ℕ → Lexeme → Type 0
-IsWithin d open_bracket = d < 4096
-IsWithin d close_bracket = Unit {0}
-IsWithin d typing_mark = Unit {0}
-IsWithin d (word w) = Unit {0}
-IsWithin d (string s) = Unit {0}

@@ -2,16 +2,12 @@
 #![tactic(auto)]
 
 mod command;
-mod cursor;
 mod error;
 mod laws;
-mod lexer;
 mod parser;
-mod quoted;
 mod reader;
 mod scan;
 mod state;
-mod words;
 
 pub use command::{Action, Command, Expr, ExprForm, Exprs, TypeExpr, TypeForm};
 pub use error::{ReadError, SyntaxError, SyntaxKind};

@@ -6,19 +6,17 @@ ghost use Rattle.yices_grammar.specs.Faults.{unexpected, not_built};
 ghost use Rattle.yices_text.specs.Machine as machine;
 ghost use Rattle.yices_text.specs.Plain.{plain, plain_action};
 ghost use Rattle.yices_text.specs.View.{fault_of};
-ghost use Rattle.yices_text.specs.Found.{plain_lexeme, IsGoodString};
+ghost use Rattle.yices_lexer.specs.Found.{plain_lexeme, IsGoodString};
 ghost use Rattle.yices_text.specs.States.{plain_state, plain_purpose, plain_frames, plain_step, Stepped, Takes, Attaches, IsWordExpr};
 
 use crate::command::{Action, Command, Expr, ExprForm, TypeExpr, TypeForm};
 use crate::error::{ReadError, SyntaxError, SyntaxKind};
-use crate::lexer::Lexeme;
-use crate::quoted::content_of;
 use crate::state::{Frame, Purpose, State, Step};
-use crate::words::{is_bad_literal, is_built_operator, is_name};
 use sqlite_items::Items;
 use std::alloc::{AllocError, Global};
 use y_io::Text;
 use yices_grammar::Place;
+use yices_lexer::{Lexeme, content_of, is_bad_literal, is_built_operator, is_name};
 
 /// A word as an expression, if it is one.
 #[tactic(auto, using(crate::proofs::Stepping::word_true, crate::proofs::Stepping::word_false, crate::proofs::Stepping::word_name, crate::proofs::Stepping::word_none))]

@@ -7,13 +7,13 @@ ghost use Rattle.yices_text.specs.View.{listed, fault_of, AnswersFault, HoldsNoM
 ghost use Rattle.yices_text.specs.declared.error.ReadError.{ReadError};
 
 use crate::command::Command;
-use crate::cursor::Cursor;
 use crate::error::ReadError;
 use crate::scan::{Read, read_command};
 use sqlite_items::Items;
 use std::alloc::{AllocError, Global};
 use std::marker::Model;
 use y_erased::{Erased, Makes, made};
+use yices_lexer::Cursor;
 
 /// The commands that were answered, one more.
 struct Answered;

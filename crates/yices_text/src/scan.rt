@@ -8,12 +8,11 @@ ghost use Rattle.yices_text.specs.Leads.{LeadsOn, GoesForward, Leads};
 ghost use Rattle.yices_text.specs.View.{kind_of, fault_of};
 
 use crate::command::Command;
-use crate::cursor::Cursor;
 use crate::error::{ReadError, SyntaxError, SyntaxKind};
-use crate::lexer::{Found, first_piece};
 use crate::parser::take_token;
 use crate::state::{State, Step};
 use std::alloc::Global;
+use yices_lexer::{Cursor, Found, first_piece};
 
 /// A command, and where it ends.
 #[derive(Drop)]

@@ -3,17 +3,16 @@ ghost use Rattle.std.specs.Prelude.{◌≡◌};
 ghost use Rattle.yices_grammar.specs.Tokens as tokens;
 ghost use Rattle.yices_text.specs.Machine as machine;
 ghost use Rattle.yices_text.specs.States.{plain_state, is_too_deep as is_too_deep_at};
-ghost use Rattle.yices_text.specs.Found.{plain_lexeme};
+ghost use Rattle.yices_lexer.specs.Found.{plain_lexeme};
 ghost use Rattle.yices_grammar.specs.Beginning.{begins};
 ghost use Rattle.yices_text.specs.Leading.{left_of};
 ghost use Rattle.yices_text.specs.Positions.{left_at};
 
 use crate::command::{Action, Command, Exprs, TypeExpr};
-use crate::lexer::Lexeme;
-use crate::words::{begins_expression, begins_form, begins_type, is_command_word, is_name};
 use sqlite_items::Items;
 use y_io::Text;
 use yices_grammar::Place;
+use yices_lexer::{Lexeme, begins_expression, begins_form, begins_type, is_command_word, is_name};
 
 /// How many brackets may be open at once.
 const MAX_DEPTH: usize = 4096;

@@ -3,7 +3,7 @@ use Rattle.std.specs.Prelude.{Some, if◌then◌else◌}
 use Rattle.yices_grammar.specs.Faults.{bad_literal, nesting, unexpected, not_built}
 use Rattle.yices_text.specs.declared.error.ReadError.TheVariants.{Syntax, Nesting}
 use Rattle.yices_text.specs.declared.error.SyntaxKind.TheVariants.{BadLiteral}
-use Rattle.yices_text.specs.Found.{plain_lexeme}
+use Rattle.yices_lexer.specs.Found.{plain_lexeme}
 use Rattle.yices_text.specs.States.{plain_state}
 use Rattle.yices_text.proofs.Refusing.{error_is, bad_token, deep_token, stuck_token}
 use Rattle.yices_text.proofs.parser.take_token.Goals as goal

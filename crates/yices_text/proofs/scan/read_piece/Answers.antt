@@ -1,5 +1,7 @@
 use Rattle.yices_text.specs.States.{plain_state}
-use Rattle.yices_text.proofs.Scanning.{good_string, bad_index_is, on_blank, on_goes, on_complete, on_refused, on_open, on_bad_byte, on_ends}
+use Rattle.yices_lexer.proofs.Breaking.{bad_index_is}
+use Rattle.yices_lexer.proofs.Finding.{good_string}
+use Rattle.yices_text.proofs.Scanning.{on_blank, on_goes, on_complete, on_refused, on_open, on_bad_byte, on_ends}
 use Rattle.yices_text.proofs.scan.read_piece.Goals as goal
 
 pub take_token-requires : goal.take_token-requires

@@ -1,5 +1,5 @@
 use Rattle.std.proofs.Common.{◌∙◌, sym, ap}
-use Rattle.yices_text.specs.Found.{plain_lexeme}
+use Rattle.yices_lexer.specs.Found.{plain_lexeme}
 use Rattle.yices_text.specs.Machine as machine
 use Rattle.yices_text.specs.States.{plain_state, is_too_deep}
 use Rattle.yices_text.proofs.Positioning.{deep_operand, deep_operator, never_deep}
