@@ -60,7 +60,7 @@ pub fn reduce<C: Checker>(
     requires { Going (lists_of state.old) added.now (C.stands checker.now) assumed.now }
     ensures { IfOk result (λ b. Reduces (lists_of state.old) added.now (C.stands checker.now) assumed.now (lists_of state.new) b) }
 {
-    state.relevance.choose()?;
+    state.relevance.choose(alloc)?;
     match rebuild(alloc, state, added)? {
         Loaded::Refuted => Ok(false),
         Loaded::Ready(mut fresh) => {

@@ -68,6 +68,8 @@ impl State {
         ensures vars { length self.new.values.items ≡ length self.old.values.items }
         ensures settles { IfOk result (λ s. Settles (lists_of self.new) assumed.now lits.now s) }
     {
+        let below = self.starts.last().copied().unwrap_or(0);
+        self.choice.note(&self.order, below);
         let top = top_of(self, lits);
         let level = self.levels_before(top);
         self.backtrack(level);

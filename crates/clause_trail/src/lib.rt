@@ -14,16 +14,14 @@ ghost use Rattle.clause_trail.specs.declared.Pair.{Pair};
 ghost use Rattle.clause_trail.specs.declared.State.{State};
 
 pub mod analysis;
-pub mod choice;
 pub mod conflicts;
 pub mod levels;
-pub mod relevance;
 pub mod shortening;
 
-use choice::Choice;
+use clause_choice::choice::Choice;
+use clause_choice::relevance::Relevance;
 use clause_logic::lists::Clause;
 use clause_logic::{Lit, same};
-use relevance::Relevance;
 use std::alloc::{AllocError, Global};
 use std::marker::Model;
 

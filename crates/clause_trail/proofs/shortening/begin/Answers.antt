@@ -1,12 +1,13 @@
-use Rattle.std.proofs.Common.{arith, false, length, get_or, take, refl}
-use Rattle.std.proofs.lemmas.List.{take_more}
+use Rattle.std.proofs.Common.{arith, false, length, get_or, refl}
 use Rattle.std.proofs.lemmas.Option.{slice_get_within}
 use Rattle.clause_logic.specs.declared.Lit.{Lit}
-use Rattle.clause_logic.specs.Clauses.{opposite}
+use Rattle.clause_logic.specs.Clauses.{opposite, Listed}
 use Rattle.clause_logic.proofs.Members.{in_at}
+use Rattle.clause_trail.specs.Shortening.{given}
+use Rattle.clause_trail.specs.declared.shortening.Finding.TheVariants as finding
 use Rattle.clause_trail.proofs.Backs.{place_of}
-use Rattle.clause_trail.proofs.Shorter.{marks_more}
-use Rattle.clause_trail.proofs.shortening.places_of.Goals as goal
+use Rattle.clause_trail.proofs.Shorter.{found_more}
+use Rattle.clause_trail.proofs.shortening.begin.Goals as goal
 
 abbrev none : Lit
 none = record { var = 0; positive = false }
@@ -21,11 +22,11 @@ pub index_mut-requires : goal.index_mut-requires
 index_mut-requires c =
     let m : Lit = get_or c.args.lits.now c.loop-lit.lit-index none in
     let p = place_of _ _ (length c.args.state.now.order.items) m c.requires.placed (c.requires.false_there m (in_at c.args.lits.now c.loop-lit.lit-index none c.loop-lit-test.true)) c.index-place.result.now c.index-place.ensures in
-    omega (arith, p.0, c.loop-lit.invariant.count, c.loop-lit.marks.ok)
+    omega (arith, p.0, c.loop-lit.invariant.count, c.loop-lit.found.ok)
 
 pub loop-lit-preserved : goal.loop-lit-preserved
 loop-lit-preserved c =
     let m : Lit = get_or c.args.lits.now c.loop-lit.lit-index none in
-    let p = place_of _ _ (length c.args.state.now.order.items) m c.requires.placed (c.requires.false_there m (in_at c.args.lits.now c.loop-lit.lit-index none c.loop-lit-test.true)) c.index-place.result.now c.index-place.ensures in
-    rw (take_more c.args.lits.now c.loop-lit.lit-index none c.loop-lit-test.true)
-    (marks_more c.args.state.now.order.items (take c.loop-lit.lit-index c.args.lits.now) m c.loop-lit.marks.items _ c.index-place.result.now c.loop-lit.invariant refl p.1)
+    let there = in_at c.args.lits.now c.loop-lit.lit-index none c.loop-lit-test.true in
+    let p = place_of _ _ (length c.args.state.now.order.items) m c.requires.placed (c.requires.false_there m there) c.index-place.result.now c.index-place.ensures in
+    found_more (Listed c.args.state.now.clauses.items) c.args.state.now.order.items c.args.lits.now m c.loop-lit.found.items _ c.index-place.result.now finding.Implied c.loop-lit.invariant refl p.1 (λ e. given m there)

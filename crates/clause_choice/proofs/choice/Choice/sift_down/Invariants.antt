@@ -1,5 +1,5 @@
 use Rattle.std.proofs.Common.{◌-◌}
-use Rattle.clause_trail.proofs.choice.Choice.sift_down.Given as goal
+use Rattle.clause_choice.proofs.choice.Choice.sift_down.Given as goal
 
 abbrev pub decreases-loop-place : goal.decreases-loop-place
 decreases-loop-place l = l.size - l.place

@@ -1,13 +1,14 @@
-use Rattle.std.proofs.Common.{arith, false, get_or, take, ap, sym, ◌∙◌, ◌≡◌, inl, inr, ⊎_elim, subst, ◌⊎◌, ℕ, true, Some}
+use Rattle.std.proofs.Common.{arith, false, get_or, take, ap, sym, ◌∙◌, ◌≡◌, inl, inr, ⊎_elim, subst, ◌⊎◌, Some}
 use Rattle.std.proofs.lemmas.List.{take_more}
 use Rattle.std.proofs.lemmas.Option.{slice_get_within, slice_get-get_or}
-use Rattle.std.specs.Prelude.{slice_get}
 use Rattle.clause_logic.specs.declared.Lit.{Lit}
 use Rattle.clause_logic.specs.Clauses.{In}
 use Rattle.clause_logic.proofs.Members.{in_at, in_push_cases}
+use Rattle.clause_trail.specs.Shortening.{HasFinding}
+use Rattle.clause_trail.specs.declared.shortening.Finding.TheVariants as finding
 use Rattle.clause_trail.proofs.Shorter.{take_all, found_at, read_found}
-use Rattle.clause_trail.proofs.shortening.all_marked.Goals as goal
-use Rattle.clause_trail.proofs.shortening.all_marked.Goals.{then-lit-var+else-not-marks-place, else-lit-var}
+use Rattle.clause_trail.proofs.shortening.look_along.Goals as goal
+use Rattle.clause_trail.proofs.shortening.look_along.Goals.{then-lit-var+in-Implied, else-lit-var}
 
 abbrev none : Lit
 none = record { var = 0; positive = false }
@@ -18,12 +19,18 @@ index-place-requires c =
     let f = found_at c.args.state.now.order.items c.args.state.now.places.items c.args.var m c.requires.placed (c.requires.false_there m (in_at c.args.lits.now c.loop-lit.lit-index none c.loop-lit-test.true)) c.if-lit-var.true in
     omega (arith, slice_get_within c.args.state.now.places.items m.var f.0 f.2, c.args.state.now.places.ok)
 
-pub bounds-marks-place : goal.bounds-marks-place
-bounds-marks-place c =
+pub bounds : goal.bounds
+bounds c =
     let m : Lit = get_or c.args.lits.now c.loop-lit.lit-index none in
     let f = read_found c.args.state.now.order.items c.args.state.now.places.items c.args.var m c.requires.placed (c.requires.false_there m (in_at c.args.lits.now c.loop-lit.lit-index none c.loop-lit-test.true)) c.if-lit-var.true
     c.index-place.result.now c.index-place.ensures in
-    omega (arith, f.0, c.requires.marks)
+    omega (arith, f.0, c.requires.found)
+
+pub index-requires : goal.index-requires
+index-requires c = omega (arith, c.requires.reasons (get_or c.args.lits.now c.loop-lit.lit-index none) (in_at c.args.lits.now c.loop-lit.lit-index none c.loop-lit-test.true), c.args.state.now.reasons.ok)
+
+pub returns-in-Unknown : goal.returns-in-Unknown
+returns-in-Unknown c = (in_at c.args.lits.now c.loop-lit.lit-index none c.loop-lit-test.true, c.if-lit-var.true)
 
 pub loop-lit-preserved : goal.loop-lit-preserved
 loop-lit-preserved c = λ m h.
@@ -31,10 +38,10 @@ loop-lit-preserved c = λ m h.
     ⊎_elim
     (λ (e : x ≡ m).
     elim c.if-lit-var.branch [
-      | then-lit-var+else-not-marks-place w ↦ subst (λ (y : Lit). (y.var ≡ c.args.var) ⊎ ((p : ℕ) × (slice_get c.args.state.now.places.items y.var ≡ Some p) × (slice_get c.args.marks.now p ≡ Some true))) e
+      | then-lit-var+in-Implied w ↦ subst (λ (y : Lit). (y.var ≡ c.args.var) ⊎ HasFinding c.args.state.now.places.items c.args.found.now y) e
           (let f = read_found c.args.state.now.order.items c.args.state.now.places.items c.args.var x c.requires.placed (c.requires.false_there x (in_at c.args.lits.now c.loop-lit.lit-index none c.loop-lit-test.true)) w.if-lit-var.true
           w.index-place.result.now w.index-place.ensures in
-          inr (w.index-place.result.now, f.1, slice_get-get_or c.args.marks.now w.index-place.result.now false (omega (arith, f.0, c.requires.marks)) ∙ ap Some w.if-not-marks-place.false))
+          inr (w.index-place.result.now, f.1, slice_get-get_or c.args.found.now w.index-place.result.now finding.Unknown (omega (arith, f.0, c.requires.found)) ∙ ap Some w.in-Implied.is))
       | else-lit-var w ↦ inl (ap (λ (y : Lit). y.var) (sym e) ∙ w.if-lit-var.false)
     ])
     (λ k. c.loop-lit.invariant m k)

@@ -3,9 +3,10 @@
 //! No contract names what is chosen here, so a better choice can take this one's place. Variables
 //! are chosen by activity with decay, over a heap, as in M. Moskewicz and others, Chaff:
 //! engineering an efficient SAT solver, 2001; values are the saved ones of K. Pipatsrisawat and
-//! A. Darwiche, A lightweight component caching scheme for satisfiability solvers, 2007; restarts
-//! follow the sequence of M. Luby, A. Sinclair and D. Zuckerman, Optimal speedup of Las Vegas
-//! algorithms, 1993.
+//! A. Darwiche, A lightweight component caching scheme for satisfiability solvers, 2007, but where
+//! the longest trail so far that met no conflict had another, as in A. Biere and others, CaDiCaL,
+//! Kissat, Paracooba, Plingeling and Treengeling, 2020; restarts follow the sequence of M. Luby,
+//! A. Sinclair and D. Zuckerman, Optimal speedup of Las Vegas algorithms, 1993.
 
 ghost use Rattle.std.specs.Prelude.{◌<◌, ◌≤◌};
 
@@ -13,16 +14,19 @@ use clause_logic::Lit;
 use std::alloc::{AllocError, Global};
 
 /// How many conflicts the unit of the restart sequence is.
-const UNIT: u64 = 100;
+const UNIT: u64 = 140;
 
 /// Where a variable stands that is not in the heap.
 const ABSENT: usize = usize::MAX;
 
-/// The heap of variables by activity, and the saved values.
+/// The heap of variables by activity, the saved values, and those of the longest trail that met no
+/// conflict.
 #[derive(Drop)]
 pub struct Choice {
     activity: Vec<u64>,
     phases: Vec<bool>,
+    longest: Vec<Option<bool>>,
+    length: usize,
     index: Vec<usize>,
     heap: Vec<usize>,
     size: usize,
@@ -38,6 +42,8 @@ impl Choice {
         Choice {
             activity: Vec::new(alloc),
             phases: Vec::new(alloc),
+            longest: Vec::new(alloc),
+            length: 0,
             index: Vec::new(alloc),
             heap: Vec::new(alloc),
             size: 0,
@@ -53,6 +59,7 @@ impl Choice {
         let var = self.index.len();
         self.activity.push(0)?;
         self.phases.push(false)?;
+        self.longest.push(None)?;
         self.heap.push(0)?;
         self.index.push(ABSENT)?;
         self.insert(var);
@@ -76,6 +83,24 @@ impl Choice {
         }
     }
 
+    /// Keeps the values of the first literals of a trail, which met no conflict, if they are more
+    /// than ever before.
+    pub fn note(&mut self, trail: &[Lit], length: usize) {
+        if length > self.length {
+            self.length = length;
+            self.longest.fill(None);
+            self.copy(trail, length);
+        }
+    }
+
+    fn copy(&mut self, trail: &[Lit], length: usize) {
+        for lit in trail.iter().take(length) {
+            if lit.var < self.longest.len() {
+                self.longest[lit.var] = Some(lit.positive);
+            }
+        }
+    }
+
     /// Takes values over that were saved before, by the numbers of their variables.
     pub fn take_phases(&mut self, phases: &[bool]) {
         for var in 0..phases.len() {
@@ -94,20 +119,27 @@ impl Choice {
         }
     }
 
-    /// The variable of the highest activity that has no value, with its saved value.
+    /// The variable of the highest activity that has no value, with the value that it is to have.
     pub fn next(&mut self, values: &[Option<bool>]) -> Option<Lit> {
         for tried in 0..self.size {
             let var = self.pop()?;
-            if var < values.len() && var < self.phases.len() {
-                if values[var].is_none() {
-                    return Some(Lit {
-                        var,
-                        positive: self.phases[var],
-                    });
-                }
+            if var < values.len() && values[var].is_none() {
+                return Some(Lit {
+                    var,
+                    positive: self.phase_of(var),
+                });
             }
         }
         None
+    }
+
+    /// The value of a variable on the longest trail that met no conflict, or the saved one.
+    fn phase_of(&self, var: usize) -> bool {
+        if var < self.longest.len() && var < self.phases.len() {
+            self.longest[var].unwrap_or(self.phases[var])
+        } else {
+            false
+        }
     }
 
     /// Raises the activities of variables that had a part in a conflict, and lets the others
