@@ -1,6 +1,7 @@
 -- How many of a list are true.
 use Rattle.std.proofs.Common.{ℕ, zero, suc, ◌<◌, ◌≤◌, ◌+◌, Bool, true, false, List, [], ◌∷◌, ◌≡◌, refl, sym, ap, Some, length, arith, replicate}
 use Rattle.std.specs.Prelude.{slice_get, slice_set, slice_index_or}
+use Rattle.std.proofs.lemmas.Option.{same_Some}
 use Rattle.clause_trail.specs.Analysis.{trues}
 
 module _ {X : Type 0} where
@@ -50,10 +51,14 @@ pub trues_fresh : (n : ℕ) → trues (replicate n false) ≡ 0
 trues_fresh zero = refl
 trues_fresh (suc n) = trues_fresh n
 
+-- all items of a list made of one are that one
+pub fresh_same : {X : Type 0} → (x y : X) → (n p : ℕ) → slice_get (replicate n x) p ≡ Some y → x ≡ y
+fresh_same x y zero p h = absurd (cc h)
+fresh_same x y (suc n) zero h = same_Some x y h
+fresh_same x y (suc n) (suc p) h = fresh_same x y n p h
+
 pub fresh_false : (n p : ℕ) → slice_get (replicate n false) p ≡ Some true → ⊥
-fresh_false zero p h = absurd (cc h)
-fresh_false (suc n) zero h = absurd (cc h)
-fresh_false (suc n) (suc p) h = fresh_false n p h
+fresh_false n p h = absurd (cc (fresh_same false true n p h))
 
 pub two_apart : (bs : List Bool) (p : ℕ) → slice_get bs p ≡ Some true → 1 < trues bs → (q : ℕ) × (slice_get bs q ≡ Some true) × (q ≡ p → ⊥)
 two_apart [] p h k = absurd (cc h)

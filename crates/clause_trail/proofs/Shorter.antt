@@ -15,7 +15,7 @@ use Rattle.clause_trail.specs.declared.shortening.Finding.TheVariants as finding
 use Rattle.clause_trail.specs.declared.shortening.Look.{Look}
 use Rattle.clause_trail.specs.declared.shortening.Look.TheVariants as look
 use Rattle.clause_trail.specs.Shortening.{IsImplied, given, unit, IsRedundant, AreFound, AllFalsified, HasFinding, LooksAlong, LooksAt, Shortens}
-use Rattle.clause_trail.proofs.Counts.{read_there}
+use Rattle.clause_trail.proofs.Counts.{read_there, fresh_same}
 use Rattle.clause_trail.proofs.Resolving.{makes_both, holds_cases}
 
 module _ (clauses : List Lit → Type 0) (order lits kept : List Lit) (places : List ℕ) (placed : IsPlaced order places) (shortens : Shortens clauses order lits kept) (s : ℕ → Bool) (models : Models s clauses) (all : (m : Lit) → In m kept → Makes s (opposite m)) where
@@ -91,12 +91,6 @@ shorter_learned clauses order places start c lower kept l placed learned same_lo
   (learned.5.0, learned.5.1, learned.5.2 ∙ ap (λ (x : Lit). Some (opposite x)) (sym same_last)),
 )
 
-pub take_all : (xs : List Lit) (n : ℕ) → length xs ≤ n → take n xs ≡ xs
-take_all [] zero h = refl
-take_all [] (suc n) h = refl
-take_all (x ∷ xs) zero h = absurd (omega (arith, h))
-take_all (x ∷ xs) (suc n) h = ap (λ (ys : List Lit). x ∷ ys) (take_all xs n (omega (arith, h)))
-
 -- where a literal that is false stands, as the code reads the place
 pub found_at : (order : List Lit) (places : List ℕ) (var : ℕ) (m : Lit) → IsPlaced order places → (m.var ≡ var) ⊎ FalseBefore order (length order) m → (m.var ≡ var → ⊥)
     → (p : ℕ) × (p < length order) × (slice_get places m.var ≡ Some p) × (slice_get order p ≡ Some (opposite m))
@@ -114,13 +108,8 @@ read_found order places var m placed which apart place read =
 pub found_none : (clauses : List Lit → Type 0) (order lits : List Lit) (findings : List Finding) (n : ℕ) → findings ≡ replicate n finding.Unknown → n ≡ length order → AreFound clauses order lits findings
 found_none clauses order lits findings n is e = record {
   count = ap length is ∙ length-replicate n finding.Unknown ∙ e;
-  implied = λ p l h. absurd (unknown n p (ap (λ (fs : List Finding). slice_get fs p) (sym is) ∙ h));
+  implied = λ p l h. absurd (cc (fresh_same finding.Unknown finding.Implied n p (ap (λ (fs : List Finding). slice_get fs p) (sym is) ∙ h)));
 }
-  where
-    unknown : (n p : ℕ) → slice_get (replicate n finding.Unknown) p ≡ Some finding.Implied → ⊥
-    unknown zero p h = absurd (cc h)
-    unknown (suc n) zero h = absurd (cc h)
-    unknown (suc n) (suc p) h = unknown n p h
 
 -- one finding more
 pub found_more : (clauses : List Lit → Type 0) (order lits : List Lit) (m : Lit) (old new : List Finding) (place : ℕ) (f : Finding) → AreFound clauses order lits old → new ≡ slice_set old place f → slice_get order place ≡ Some (opposite m) → (f ≡ finding.Implied → IsImplied clauses order lits m)

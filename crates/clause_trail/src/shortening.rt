@@ -146,7 +146,8 @@ impl Findings {
     }
 }
 
-/// Leaves out literals that are false where others of the list are.
+/// Leaves out literals that are false where others of the list are. It reads each reason on the way
+/// once, and once more for each literal of it that has to be settled first.
 pub fn shorten(alloc: Global, state: &State, lits: &[Lit]) -> Result<Vec<Lit>, AllocError>
     requires sound { Sound (lists_of state.now) }
     requires false_there { AllFalsified state.now.order.items lits.now }

@@ -1,12 +1,12 @@
 use Rattle.std.proofs.Common.{arith, false, get_or, take, ap, sym, ◌∙◌, ◌≡◌, inl, inr, ⊎_elim, subst, ◌⊎◌, Some}
-use Rattle.std.proofs.lemmas.List.{take_more}
+use Rattle.std.proofs.lemmas.List.{take_more, take_all}
 use Rattle.std.proofs.lemmas.Option.{slice_get_within, slice_get-get_or}
 use Rattle.clause_logic.specs.declared.Lit.{Lit}
 use Rattle.clause_logic.specs.Clauses.{In}
 use Rattle.clause_logic.proofs.Members.{in_at, in_push_cases}
 use Rattle.clause_trail.specs.Shortening.{HasFinding}
 use Rattle.clause_trail.specs.declared.shortening.Finding.TheVariants as finding
-use Rattle.clause_trail.proofs.Shorter.{take_all, found_at, read_found}
+use Rattle.clause_trail.proofs.Shorter.{found_at, read_found}
 use Rattle.clause_trail.proofs.shortening.look_along.Goals as goal
 use Rattle.clause_trail.proofs.shortening.look_along.Goals.{then-lit-var+in-Implied, else-lit-var}
 
@@ -48,4 +48,4 @@ loop-lit-preserved c = λ m h.
     (in_push_cases (take c.loop-lit.lit-index c.args.lits.now) x m (rw (take_more c.args.lits.now c.loop-lit.lit-index none c.loop-lit-test.true) at h))
 
 pub returns : goal.returns
-returns c = λ m h. c.loop-lit.invariant m (subst (In m) (sym (take_all c.args.lits.now c.loop-lit.lit-index c.loop-lit-test.false)) h)
+returns c = λ m h. c.loop-lit.invariant m (subst (In m) (sym (take_all c.loop-lit.lit-index c.args.lits.now c.loop-lit-test.false)) h)
