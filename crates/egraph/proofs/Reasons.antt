@@ -4,7 +4,7 @@ use Rattle.std.specs.Prelude.{slice_get, IsPermutation}
 use Rattle.std.specs.List.{cons_option}
 use Rattle.std.proofs.lemmas.Bool.{cases_eq, eq-eqb}
 use Rattle.std.proofs.lemmas.List.{map-append}
-use Rattle.std.proofs.lemmas.Option.{same_Some, slice_get-get_or, get_or_from_slice_get}
+use Rattle.std.proofs.lemmas.Option.{same_Some, slice_get-get_or, slice_get_within, get_or_from_slice_get}
 use Rattle.std.proofs.lemmas.List.Sorted.{All-permutation, IsPermutation-refl, IsPermutation-sym, IsPermutation-trans, IsPermutation-cons, IsPermutation-middle, IsPermutation-append_right}
 use Rattle.egraph.specs.declared.Node.{Node}
 use Rattle.egraph.specs.declared.Merge.{Merge}
@@ -36,12 +36,7 @@ module _ (events : List Event) (a b : ℕ) where
 in_order : (xs ys : List Merge) → IsPermutation xs ys → AllIn xs ys
 in_order xs ys moves k m at =
     let each = All-permutation (λ (x : Merge). HasMerge x ys) ys xs (IsPermutation-sym xs ys moves) (λ j d less. (j, slice_get-get_or ys j d less)) in
-    subst (λ (x : Merge). HasMerge x ys) (get_or_from_slice_get xs k m m at) (each k m (slice_get_less xs k m at))
-  where
-    slice_get_less : (zs : List Merge) (i : ℕ) (x : Merge) → slice_get zs i ≡ Some x → i < length zs
-    slice_get_less [] i x h = absurd (cc h)
-    slice_get_less (z ∷ zs) zero x h = omega arith
-    slice_get_less (z ∷ zs) (suc i) x h = omega (arith, slice_get_less zs i x h)
+    subst (λ (x : Merge). HasMerge x ys) (get_or_from_slice_get xs k m m at) (each k m (slice_get_within xs k m at))
 
 in_front : (xs ys : List Merge) → AllIn xs (xs ++ ys)
 in_front [] ys k m at = absurd (cc at)
