@@ -4,7 +4,7 @@ use Rattle.std.specs.Prelude.{slice_get}
 use Rattle.std.specs.List.{list_all, list_any}
 use Rattle.std.proofs.lemmas.Bool.{and_left, and_right, and_from, or_from, or_left, or_right}
 use Rattle.std.proofs.lemmas.Option.{same_Some}
-use Rattle.y_tree.specs.declared.Sort.{Sort}
+use Rattle.y_tree.specs.Sorts.{boolean}
 use Rattle.y_tree.specs.Tree.{Tree, trees}
 use Rattle.y_tree.specs.Meaning.{Assignment, truth_of, apply, meaning, meanings}
 use Rattle.theory_combine.specs.declared.Node.{Node}
@@ -12,7 +12,7 @@ use Rattle.theory_combine.specs.declared.Node.TheVariants as node_of
 use Rattle.theory_combine.specs.Nodes.{op_of, arguments_of, IsFormed, tree_at}
 use Rattle.theory_combine.specs.Search.{choice_of, Collects, IsValueAt, Evaluates, Combines, NodeHas, Gives}
 use Rattle.theory_combine.proofs.Gets.{push_cases, length_front}
-use Rattle.theory_combine.proofs.TreeLaws.{tree_at_node}
+use Rattle.theory_combine.proofs.TreeLaws.{meaning_at}
 use Rattle.theory_combine.proofs.Order.{unchosen}
 
 module _ (f : ℕ → Tree) (s : Assignment) where
@@ -47,19 +47,18 @@ not_and false = refl
 
 module _ (nodes : List Node) (constants : List ℕ) (choices : List Bool) (values : List (Option Bool)) (formed : IsFormed nodes) (collected : Collects nodes constants) (evaluated : Evaluates nodes constants choices values) where
   -- the meaning of a node over those of its arguments
-  at_node : (i : ℕ) (n : Node) → slice_get nodes i ≡ Some n → (s : Assignment) → meaning (tree_at nodes i) s ≡ apply (op_of n) (meanings (trees (map (tree_at nodes) (arguments_of n))) s) s
-  unfolding meaning
-  at_node i n h s = ap (λ t. meaning t s) (tree_at_node nodes formed i n h)
+  at_node : (i : ℕ) (n : Node) → slice_get nodes i ≡ Some n → (s : Assignment) → meaning (tree_at nodes i) s ≡ apply (op_of n) boolean (meanings (trees (map (tree_at nodes) (arguments_of n))) s) s
+  at_node i n h s = meaning_at nodes formed i n h s
 
   -- a negation
-  not_value : (s : Assignment) (a : ℕ) (b : Bool) → truth_of (meaning (tree_at nodes a) s) ≡ not b → truth_of (apply (op_of (node_of.Not a)) (meanings (trees (map (tree_at nodes) (a ∷ []))) s) s) ≡ b
+  not_value : (s : Assignment) (a : ℕ) (b : Bool) → truth_of (meaning (tree_at nodes a) s) ≡ not b → truth_of (apply (op_of (node_of.Not a)) boolean (meanings (trees (map (tree_at nodes) (a ∷ []))) s) s) ≡ b
   unfolding meaning
   not_value s a b e = ap (λ t. not (t && true)) e ∙ not_and b
 
-  const_value : (i number : ℕ) (of : Sort) → slice_get nodes i ≡ Some (node_of.Const number of) → (v : Option Bool) → v ≡ choice_of constants choices number → IsValueAt nodes constants choices i v
-  const_value i number of h (Some b) e = λ s agrees. ap truth_of (at_node i (node_of.Const number of) h s) ∙ agrees i number of b h (sym e)
-  const_value i number of h None e =
-      let place = collected i number of h in unchosen constants choices number place.0 place.1 (sym e)
+  const_value : (i number : ℕ) → slice_get nodes i ≡ Some (node_of.Const number) → (v : Option Bool) → v ≡ choice_of constants choices number → IsValueAt nodes constants choices i v
+  const_value i number h (Some b) e = λ s agrees. ap truth_of (at_node i (node_of.Const number) h s) ∙ agrees i number b h (sym e)
+  const_value i number h None e =
+      let place = collected i number h in unchosen constants choices number place.0 place.1 (sym e)
 
   and_value : (i : ℕ) (args : List ℕ) → slice_get nodes i ≡ Some (node_of.And args) → (v : Option Bool) → Combines (NodeHas values) true args v → IsValueAt nodes constants choices i v
   and_value i args h (Some true) g = λ s agrees.
@@ -92,7 +91,7 @@ module _ (nodes : List Node) (constants : List ℕ) (choices : List Bool) (value
       subst (IsValueAt nodes constants choices i) (sym g) (λ s agrees. ap truth_of (at_node i node_of.True h s))
   node_value i node_of.False v h g =
       subst (IsValueAt nodes constants choices i) (sym g) (λ s agrees. ap truth_of (at_node i node_of.False h s))
-  node_value i (node_of.Const number of) v h g = const_value i number of h v g
+  node_value i (node_of.Const number) v h g = const_value i number h v g
   node_value i (node_of.Not a) v h g = negation_value i a h v g
   node_value i (node_of.And args) v h g = and_value i args h v g
   node_value i (node_of.Or args) v h g = or_value i args h v g

@@ -1,5 +1,6 @@
 pub mod Gets
 pub mod TreeLaws
+pub mod Tables
 pub mod Order
 pub mod Evaluation
 pub mod Combining

@@ -4,15 +4,14 @@ use Rattle.std.proofs.lemmas.Option.{same_Some, slice_get_within}
 use Rattle.std.proofs.lemmas.Bool.{cases_eq, eq-eqb, ne_eqb, false_from_ne_true}
 use Rattle.std.proofs.lemmas.List.{at_drop_more, at_drop_all}
 use Rattle.std.specs.Prelude.{slice_get, slice_set}
-use Rattle.y_tree.specs.declared.Sort.{Sort}
-use Rattle.y_tree.specs.declared.Sort.TheVariants as sort
+use Rattle.y_tree.specs.Sorts.{boolean}
 use Rattle.y_tree.specs.Meaning.{Assignment, truth_of, value_in}
 use Rattle.theory_combine.specs.declared.Node.{Node}
 use Rattle.theory_combine.specs.Search.{choice_of, next_under, next_choices, Agrees}
 
 -- the truth value of a Boolean constant
 abbrev pub bit : Assignment → ℕ → Bool
-bit s number = truth_of (value_in s number sort.Bool)
+bit s number = truth_of (value_in s.constants number boolean)
 
 -- the assignment is not behind the choices
 abbrev pub Ahead : List ℕ → List Bool → Assignment → Type 0
@@ -99,12 +98,9 @@ follows_choice (c ∷ cs) (d ∷ bs) s number b f e =
     (λ q. follows_choice cs bs s number b f.1 (sym (choice_later c cs d bs number q) ∙ e))
     (cases_eq c number)
 
-bit_value : (s : Assignment) (number : ℕ) (of : Sort) → truth_of (value_in s number of) ≡ bit s number
-bit_value s number sort.Bool = refl
-
 -- an assignment that has the chosen values agrees with the choices at each constant node
 pub follows_agrees : (nodes : List Node) (cs : List ℕ) (bs : List Bool) (s : Assignment) → Follows cs bs s → Agrees nodes cs bs s
-follows_agrees nodes cs bs s f = λ k number of b h e. bit_value s number of ∙ follows_choice cs bs s number b f e
+follows_agrees nodes cs bs s f = λ k number b h e. follows_choice cs bs s number b f e
 
 -- a constant without a choice is past the choices
 pub unchosen : (cs : List ℕ) (bs : List Bool) (number i : ℕ) → slice_get cs i ≡ Some number → choice_of cs bs number ≡ None → length bs < length cs

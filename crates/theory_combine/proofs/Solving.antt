@@ -3,18 +3,19 @@ use Rattle.std.proofs.Common.{◌≡◌, ◌∙◌, ◌<◌, ◌≤◌, ◌++◌
 use Rattle.std.specs.Prelude.{slice_get, unwrap_or}
 use Rattle.std.proofs.lemmas.Bool.{cases_eq, eq-eqb, ne_eqb}
 use Rattle.std.proofs.lemmas.Option.{same_Some, slice_get_within, slice_get-get_or}
-use Rattle.y_tree.specs.declared.Sort.{Sort}
-use Rattle.y_tree.specs.declared.Value.{Value}
-use Rattle.y_tree.specs.declared.Value.TheVariants as value
+use Rattle.y_tree.specs.Sorts.{boolean}
+use Rattle.y_tree.specs.Values.{truth}
 use Rattle.y_tree.specs.Meaning.{Assignment, truth_of, value_in, meaning}
 use Rattle.theory_combine.specs.declared.Node.{Node}
 use Rattle.theory_combine.specs.declared.Node.TheVariants as node_of
 use Rattle.theory_combine.specs.declared.NodeLit.{NodeLit}
-use Rattle.theory_combine.specs.Nodes.{IsFormed, tree_at, number_at, number_of, entry_of, assignment_of, MakesAll}
+use Rattle.theory_combine.specs.Nodes.{IsFormed, tree_at, number_at, number_of, entry_of, constants_in, assignment_of, MakesAll}
 use Rattle.theory_combine.specs.Answers.{IsSolution, IsConflict}
 use Rattle.theory_combine.specs.Search.{bit_of, next_choices, Agrees, Evaluates, Combines, LitHas, Assigns}
+use Rattle.theory_combine.specs.Values.{truth_in}
 use Rattle.theory_combine.proofs.Gets.{length_pushed}
-use Rattle.theory_combine.proofs.TreeLaws.{tree_at_node}
+use Rattle.theory_combine.proofs.Tables.{value_in_booleans}
+use Rattle.theory_combine.proofs.TreeLaws.{meaning_at}
 use Rattle.theory_combine.proofs.Order.{Ahead, Follows, ahead_first, ahead_push, ahead_next, ahead_last, follows_agrees, length_next}
 
 -- no assignment behind the choices makes all literals true
@@ -29,22 +30,22 @@ not_itself : (b : Bool) → b ≡ not b → ⊥
 not_itself true e = absurd (cc e)
 not_itself false e = absurd (cc e)
 
--- values of nodes, read as an assignment, give each constant its value
-value_in_assigned : (nodes : List Node) (f : ℕ → Bool) (values : List (ℕ × Value)) → ((i : ℕ) (e : ℕ × Value) → slice_get values i ≡ Some e → (m : ℕ) × (number_at nodes e.0 ≡ Some m) × (e.1 ≡ value.Bool (f m)))
-    → (i : ℕ) (e : ℕ × Value) → slice_get values i ≡ Some e → (number : ℕ) → number_at nodes e.0 ≡ Some number → (of : Sort) → value_in (assignment_of nodes values) number of ≡ value.Bool (f number)
-value_in_assigned nodes f [] ok i e h number k of = absurd (cc h)
-value_in_assigned nodes f (d ∷ ds) ok zero e h number k of =
+-- truth values of nodes, read as those of constants, give each constant its value
+truth_in_constants : (nodes : List Node) (f : ℕ → Bool) (values : List (ℕ × Bool)) → ((i : ℕ) (e : ℕ × Bool) → slice_get values i ≡ Some e → (m : ℕ) × (number_at nodes e.0 ≡ Some m) × (e.1 ≡ f m))
+    → (i : ℕ) (e : ℕ × Bool) → slice_get values i ≡ Some e → (number : ℕ) → number_at nodes e.0 ≡ Some number → truth_in (constants_in nodes values) number ≡ f number
+truth_in_constants nodes f [] ok i e h number k = absurd (cc h)
+truth_in_constants nodes f (d ∷ ds) ok zero e h number k =
     let first = ok zero d refl in
-    let same : first.0 ≡ number = same_Some first.0 number (sym first.1 ∙ ap (λ (w : ℕ × Value). number_at nodes w.0) (same_Some d e h) ∙ k) in
-    ap (λ o. value_in (entry_of o d.1 ++ assignment_of nodes ds) number of) first.1
-    ∙ ap (λ t. cond {A = Value} t d.1 (value_in (assignment_of nodes ds) number of)) (eq-eqb first.0 number same)
-    ∙ first.2 ∙ ap (λ n. value.Bool (f n)) same
-value_in_assigned nodes f (d ∷ ds) ok (suc i) e h number k of =
+    let same : first.0 ≡ number = same_Some first.0 number (sym first.1 ∙ ap (λ (w : ℕ × Bool). number_at nodes w.0) (same_Some d e h) ∙ k) in
+    ap (λ o. truth_in (entry_of o d.1 ++ constants_in nodes ds) number) first.1
+    ∙ ap (λ t. cond {A = Bool} t d.1 (truth_in (constants_in nodes ds) number)) (eq-eqb first.0 number same)
+    ∙ first.2 ∙ ap f same
+truth_in_constants nodes f (d ∷ ds) ok (suc i) e h number k =
     let first = ok zero d refl in
-    ap (λ o. value_in (entry_of o d.1 ++ assignment_of nodes ds) number of) first.1
+    ap (λ o. truth_in (entry_of o d.1 ++ constants_in nodes ds) number) first.1
     ∙ ⊎_elim
-    (λ same. ap (λ t. cond {A = Value} t d.1 (value_in (assignment_of nodes ds) number of)) (eq-eqb first.0 number same) ∙ first.2 ∙ ap (λ n. value.Bool (f n)) same)
-    (λ other. ap (λ t. cond {A = Value} t d.1 (value_in (assignment_of nodes ds) number of)) (ne_eqb first.0 number other) ∙ value_in_assigned nodes f ds (λ j. ok (suc j)) i e h number k of)
+    (λ same. ap (λ t. cond {A = Bool} t d.1 (truth_in (constants_in nodes ds) number)) (eq-eqb first.0 number same) ∙ first.2 ∙ ap f same)
+    (λ other. ap (λ t. cond {A = Bool} t d.1 (truth_in (constants_in nodes ds) number)) (ne_eqb first.0 number other) ∙ truth_in_constants nodes f ds (λ j. ok (suc j)) i e h number k)
     (cases_eq first.0 number)
 
 module _ (nodes : List Node) (lits : List NodeLit) (constants : List ℕ) (choices : List Bool) (values : List (Option Bool)) (evaluated : Evaluates nodes constants choices values) where
@@ -89,30 +90,31 @@ module _ (nodes : List Node) (lits : List NodeLit) (constants : List ℕ) (choic
           ahead_last constants choices s searches.bound (searches.ahead s makes) (not_followed c s makes) e;
     }
 
-  module _ (entries : List (ℕ × Value)) (formed : IsFormed nodes) (assigns : Assigns nodes constants choices (length nodes) entries) where
+  module _ (entries : List (ℕ × Bool)) (formed : IsFormed nodes) (assigns : Assigns nodes constants choices (length nodes) entries) where
     abbrev found : Assignment
     found = assignment_of nodes entries
 
-    entry_ok : (i : ℕ) (e : ℕ × Value) → slice_get entries i ≡ Some e → (m : ℕ) × (number_at nodes e.0 ≡ Some m) × (e.1 ≡ value.Bool (bit_of constants choices m))
-    entry_ok i e h = let o = assigns.only i e h in (o.0, ap number_of o.2, o.3)
+    entry_ok : (i : ℕ) (e : ℕ × Bool) → slice_get entries i ≡ Some e → (m : ℕ) × (number_at nodes e.0 ≡ Some m) × (e.1 ≡ bit_of constants choices m)
+    entry_ok i e h = let o = assigns.only i e h in (o.0, ap number_of o.1, o.2)
 
-    entry_value : (i : ℕ) (e : ℕ × Value) → slice_get entries i ≡ Some e → (number : ℕ) (of : Sort) → slice_get nodes e.0 ≡ Some (node_of.Const number of) → value_in found number of ≡ value.Bool (bit_of constants choices number)
-    entry_value i e h number of k = value_in_assigned nodes (bit_of constants choices) entries entry_ok i e h number (ap number_of k) of
+    entry_value : (i : ℕ) (e : ℕ × Bool) → slice_get entries i ≡ Some e → (number : ℕ) → slice_get nodes e.0 ≡ Some (node_of.Const number) → value_in found.constants number boolean ≡ truth (bit_of constants choices number)
+    entry_value i e h number k =
+        value_in_booleans (constants_in nodes entries) number
+        ∙ ap truth (truth_in_constants nodes (bit_of constants choices) entries entry_ok i e h number (ap number_of k))
 
-    const_meaning : (k number : ℕ) (of : Sort) → slice_get nodes k ≡ Some (node_of.Const number of) → (s : Assignment) → meaning (tree_at nodes k) s ≡ value_in s number of
-    unfolding meaning
-    const_meaning k number of h s = ap (λ t. meaning t s) (tree_at_node nodes formed k (node_of.Const number of) h)
+    const_meaning : (k number : ℕ) → slice_get nodes k ≡ Some (node_of.Const number) → (s : Assignment) → meaning (tree_at nodes k) s ≡ value_in s.constants number boolean
+    const_meaning k number h s = meaning_at nodes formed k (node_of.Const number) h s
 
     found_agrees : Agrees nodes constants choices found
-    found_agrees k number of b h e =
-        let o = assigns.every k number of (slice_get_within nodes k _ h) h in
-        ap truth_of (entry_value o.0 (k, value.Bool (bit_of constants choices number)) o.1 number of h) ∙ ap (λ r. unwrap_or r false) e
+    found_agrees k number b h e =
+        let o = assigns.every k number (slice_get_within nodes k _ h) h in
+        ap truth_of (entry_value o.0 (k, bit_of constants choices number) o.1 number h) ∙ ap (λ r. unwrap_or r false) e
 
     pub solution : Combines (LitHas values) true lits (Some true) → IsSolution nodes lits entries
     solution c = record {
-      every = λ k number of h. let o = assigns.every k number of (slice_get_within nodes k _ h) h in (o.0, value.Bool (bit_of constants choices number), o.1);
-      only = λ i e h. let o = assigns.only i e h in (o.0, o.1, o.2);
+      every = λ k number h. let o = assigns.every k number (slice_get_within nodes k _ h) h in (o.0, bit_of constants choices number, o.1);
+      only = λ i e h. let o = assigns.only i e h in (o.0, o.1);
       rising = assigns.rising;
-      agree = λ i e h. let o = assigns.only i e h in const_meaning e.0 o.0 o.1 o.2 found ∙ entry_value i e h o.0 o.1 o.2 ∙ sym o.3;
+      agree = λ i e h. let o = assigns.only i e h in const_meaning e.0 o.0 o.1 found ∙ entry_value i e h o.0 o.1 ∙ ap truth (sym o.2);
       makes = all_made c found found_agrees;
     }

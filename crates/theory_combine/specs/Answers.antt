@@ -1,7 +1,6 @@
 -- What an answer says: values that make all literals true, or literals that can't be true together.
-use Rattle.std.specs.Prelude.{◌≡◌, ℕ, ◌<◌, List, Some, All, length, slice_get}
-use Rattle.y_tree.specs.declared.Sort.{Sort}
-use Rattle.y_tree.specs.declared.Value.{Value}
+use Rattle.std.specs.Prelude.{◌≡◌, ℕ, ◌<◌, Bool, List, Some, All, length, slice_get}
+use Rattle.y_tree.specs.Values.{truth}
 use Rattle.y_tree.specs.Meaning.{Assignment, meaning}
 use Rattle.theory_combine.specs.declared.Node.{Node}
 use Rattle.theory_combine.specs.declared.Node.TheVariants as node_of
@@ -11,15 +10,15 @@ use Rattle.theory_combine.specs.declared.Verdict.TheVariants.{Sat, Unsat}
 use Rattle.theory_combine.specs.Nodes.{tree_at, assignment_of, MakesAll, MakesAt}
 
 -- a value for each constant node, and under them each literal is true
-pub record IsSolution (nodes : List Node) (lits : List NodeLit) (values : List (ℕ × Value)) : Type 0 where
+pub record IsSolution (nodes : List Node) (lits : List NodeLit) (values : List (ℕ × Bool)) : Type 0 where
   -- each constant node has an entry
-  pub every : (k number : ℕ) (of : Sort) → slice_get nodes k ≡ Some (node_of.Const number of) → (i : ℕ) × (v : Value) × (slice_get values i ≡ Some (k, v))
+  pub every : (k number : ℕ) → slice_get nodes k ≡ Some (node_of.Const number) → (i : ℕ) × (b : Bool) × (slice_get values i ≡ Some (k, b))
   -- each entry is of a constant node
-  pub only : (i : ℕ) (e : ℕ × Value) → slice_get values i ≡ Some e → (number : ℕ) × (of : Sort) × (slice_get nodes e.0 ≡ Some (node_of.Const number of))
+  pub only : (i : ℕ) (e : ℕ × Bool) → slice_get values i ≡ Some e → (number : ℕ) × (slice_get nodes e.0 ≡ Some (node_of.Const number))
   -- the nodes' numbers rise, so that each is there once
-  pub rising : (i j : ℕ) (e d : ℕ × Value) → i < j → slice_get values i ≡ Some e → slice_get values j ≡ Some d → e.0 < d.0
+  pub rising : (i j : ℕ) (e d : ℕ × Bool) → i < j → slice_get values i ≡ Some e → slice_get values j ≡ Some d → e.0 < d.0
   -- the entry of a node is its value
-  pub agree : (i : ℕ) (e : ℕ × Value) → slice_get values i ≡ Some e → meaning (tree_at nodes e.0) (assignment_of nodes values) ≡ e.1
+  pub agree : (i : ℕ) (e : ℕ × Bool) → slice_get values i ≡ Some e → meaning (tree_at nodes e.0) (assignment_of nodes values) ≡ truth e.1
   -- each literal is true
   pub makes : MakesAll nodes (assignment_of nodes values) lits
 
@@ -31,7 +30,7 @@ pub record IsConflict (nodes : List Node) (lits : List NodeLit) (places : List �
   pub never : (s : Assignment) → MakesAt nodes s lits places → ⊥
 
 -- what `Sat` says
-abbrev pub IfSat : Verdict → (List (ℕ × Value) → Type 0) → Type 0
+abbrev pub IfSat : Verdict → (List (ℕ × Bool) → Type 0) → Type 0
 IfSat (Sat values) P = P values
 IfSat (Unsat places) P = Unit {0}
 

@@ -1,6 +1,7 @@
 -- Terms as numbered nodes, each over earlier ones, and the trees that they stand for.
-use Rattle.std.specs.Prelude.{◌≡◌, ℕ, ◌<◌, List, [], ◌∷◌, ◌++◌, Option, Some, None, length, map, slice_get, take, unwrap_or, All, Contains}
-use Rattle.y_tree.specs.declared.Value.{Value}
+use Rattle.std.specs.Prelude.{◌≡◌, ℕ, ◌<◌, Bool, List, [], ◌∷◌, ◌++◌, Option, Some, None, length, map, slice_get, take, unwrap_or, All, Contains}
+use Rattle.y_tree.specs.Sorts.{boolean}
+use Rattle.y_tree.specs.Values as value
 use Rattle.y_tree.specs.Tree.{Op, truth, falsity, constant, negation, conjunction, disjunction, Tree, Trees, node, none, more, trees}
 use Rattle.y_tree.specs.Meaning.{Assignment, truth_of, meaning}
 use Rattle.theory_combine.specs.declared.Node.{Node}
@@ -11,7 +12,7 @@ use Rattle.theory_combine.specs.declared.NodeLit.{NodeLit}
 abbrev pub op_of : Node → Op
 op_of node_of.True = truth
 op_of node_of.False = falsity
-op_of (node_of.Const number of) = constant number of
+op_of (node_of.Const number) = constant number boolean
 op_of (node_of.Not a) = negation
 op_of (node_of.And args) = conjunction
 op_of (node_of.Or args) = disjunction
@@ -20,7 +21,7 @@ op_of (node_of.Or args) = disjunction
 abbrev pub arguments_of : Node → List ℕ
 arguments_of node_of.True = []
 arguments_of node_of.False = []
-arguments_of (node_of.Const number of) = []
+arguments_of (node_of.Const number) = []
 arguments_of (node_of.Not a) = a ∷ []
 arguments_of (node_of.And args) = args
 arguments_of (node_of.Or args) = args
@@ -87,7 +88,7 @@ abbrev pub number_of : Option Node → Option ℕ
 number_of None = None
 number_of (Some node_of.True) = None
 number_of (Some node_of.False) = None
-number_of (Some (node_of.Const number of)) = Some number
+number_of (Some (node_of.Const number)) = Some number
 number_of (Some (node_of.Not a)) = None
 number_of (Some (node_of.And args)) = None
 number_of (Some (node_of.Or args)) = None
@@ -96,12 +97,20 @@ number_of (Some (node_of.Or args)) = None
 abbrev pub number_at : List Node → ℕ → Option ℕ
 number_at nodes k = number_of (slice_get nodes k)
 
--- a value of the constant with that number, if there is one
-abbrev pub entry_of : Option ℕ → Value → Assignment
-entry_of None v = []
-entry_of (Some number) v = (number, v) ∷ []
+-- a truth value of the constant with that number, if there is one
+abbrev pub entry_of : Option ℕ → Bool → List (ℕ × Bool)
+entry_of None b = []
+entry_of (Some number) b = (number, b) ∷ []
 
--- values of nodes, read as values of the constants that stand there
-abbrev pub assignment_of : List Node → List (ℕ × Value) → Assignment
-assignment_of nodes [] = []
-assignment_of nodes (e ∷ es) = entry_of (number_at nodes e.0) e.1 ++ assignment_of nodes es
+-- truth values of nodes, read as those of the constants that stand there
+abbrev pub constants_in : List Node → List (ℕ × Bool) → List (ℕ × Bool)
+constants_in nodes [] = []
+constants_in nodes (e ∷ es) = entry_of (number_at nodes e.0) e.1 ++ constants_in nodes es
+
+-- truth values of constants, by their numbers, as an assignment
+abbrev pub booleans : List (ℕ × Bool) → Assignment
+booleans es = record { constants = map (λ e. (e.0, value.truth e.1)) es; variables = [] }
+
+-- truth values of nodes, read as an assignment of the constants that stand there
+abbrev pub assignment_of : List Node → List (ℕ × Bool) → Assignment
+assignment_of nodes values = booleans (constants_in nodes values)

@@ -1,8 +1,6 @@
 -- Choices of truth values for constants, and what they say of nodes.
 use Rattle.std.specs.Prelude.{◌≡◌, ℕ, ◌<◌, Bool, true, false, not, ◌==◌, List, [], ◌∷◌, Option, Some, None, length, slice_get, option_map, unwrap_or, if◌then◌else◌}
-use Rattle.y_tree.specs.declared.Sort.{Sort}
-use Rattle.y_tree.specs.declared.Value.{Value}
-use Rattle.y_tree.specs.declared.Value.TheVariants as value
+use Rattle.y_tree.specs.Sorts.{boolean}
 use Rattle.y_tree.specs.Meaning.{Assignment, truth_of, value_in, meaning}
 use Rattle.theory_combine.specs.declared.Node.{Node}
 use Rattle.theory_combine.specs.declared.Node.TheVariants as node_of
@@ -17,12 +15,12 @@ choice_of (c ∷ cs) (b ∷ bs) number = if c == number then Some b else choice_
 
 -- each constant node's number is among the constants
 abbrev pub Collects : List Node → List ℕ → Type 0
-Collects nodes constants = (k number : ℕ) (of : Sort) → slice_get nodes k ≡ Some (node_of.Const number of) → (i : ℕ) × (slice_get constants i ≡ Some number)
+Collects nodes constants = (k number : ℕ) → slice_get nodes k ≡ Some (node_of.Const number) → (i : ℕ) × (slice_get constants i ≡ Some number)
 
 -- each constant node with a choice has that value under the assignment
 abbrev pub Agrees : List Node → List ℕ → List Bool → Assignment → Type 0
 Agrees nodes constants choices s =
-    (k number : ℕ) (of : Sort) (b : Bool) → slice_get nodes k ≡ Some (node_of.Const number of) → choice_of constants choices number ≡ Some b → truth_of (value_in s number of) ≡ b
+    (k number : ℕ) (b : Bool) → slice_get nodes k ≡ Some (node_of.Const number) → choice_of constants choices number ≡ Some b → truth_of (value_in s.constants number boolean) ≡ b
 
 -- a node's value is known only if all assignments that agree with the choices give it, and open only if a constant has no choice
 abbrev pub IsValueAt : List Node → List ℕ → List Bool → ℕ → Option Bool → Type 0
@@ -55,7 +53,7 @@ LitHas values lit v = slice_get values lit.node ≡ Some (option_map (signed lit
 abbrev pub Gives : List (Option Bool) → List ℕ → List Bool → Node → Option Bool → Type 0
 Gives values constants choices node_of.True outcome = outcome ≡ Some true
 Gives values constants choices node_of.False outcome = outcome ≡ Some false
-Gives values constants choices (node_of.Const number of) outcome = outcome ≡ choice_of constants choices number
+Gives values constants choices (node_of.Const number) outcome = outcome ≡ choice_of constants choices number
 Gives values constants choices (node_of.Not a) outcome = slice_get values a ≡ Some (option_map not outcome)
 Gives values constants choices (node_of.And args) outcome = Combines (NodeHas values) true args outcome
 Gives values constants choices (node_of.Or args) outcome = Combines (NodeHas values) false args outcome
@@ -76,7 +74,7 @@ abbrev pub bit_of : List ℕ → List Bool → ℕ → Bool
 bit_of constants choices number = unwrap_or (choice_of constants choices number) false
 
 -- the values of the constants among the first nodes, by the choices
-pub record Assigns (nodes : List Node) (constants : List ℕ) (choices : List Bool) (done : ℕ) (values : List (ℕ × Value)) : Type 0 where
-  pub every : (k number : ℕ) (of : Sort) → k < done → slice_get nodes k ≡ Some (node_of.Const number of) → (i : ℕ) × (slice_get values i ≡ Some (k, value.Bool (bit_of constants choices number)))
-  pub only : (i : ℕ) (e : ℕ × Value) → slice_get values i ≡ Some e → (number : ℕ) × (of : Sort) × (slice_get nodes e.0 ≡ Some (node_of.Const number of)) × (e.1 ≡ value.Bool (bit_of constants choices number)) × (e.0 < done)
-  pub rising : (i j : ℕ) (e d : ℕ × Value) → i < j → slice_get values i ≡ Some e → slice_get values j ≡ Some d → e.0 < d.0
+pub record Assigns (nodes : List Node) (constants : List ℕ) (choices : List Bool) (done : ℕ) (values : List (ℕ × Bool)) : Type 0 where
+  pub every : (k number : ℕ) → k < done → slice_get nodes k ≡ Some (node_of.Const number) → (i : ℕ) × (slice_get values i ≡ Some (k, bit_of constants choices number))
+  pub only : (i : ℕ) (e : ℕ × Bool) → slice_get values i ≡ Some e → (number : ℕ) × (slice_get nodes e.0 ≡ Some (node_of.Const number)) × (e.1 ≡ bit_of constants choices number) × (e.0 < done)
+  pub rising : (i j : ℕ) (e d : ℕ × Bool) → i < j → slice_get values i ≡ Some e → slice_get values j ≡ Some d → e.0 < d.0

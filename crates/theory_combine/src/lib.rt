@@ -12,7 +12,6 @@ ghost use Rattle.theory_combine.specs.Nodes.{Fits, IsFormed, OlderTreesStay, New
 
 use std::alloc::{AllocError, Global};
 use std::marker::Model;
-use y_tree::{Sort, Value};
 
 mod search;
 mod values;
@@ -75,17 +74,16 @@ impl Places {
     }
 }
 
-/// A list of nodes' numbers, each with a value.
+/// A list of nodes' numbers, each with a truth value.
 #[derive(Debug, Drop)]
 pub struct NodeValues {
-    items: Vec<(usize, Value)>,
+    items: Vec<(usize, bool)>,
 }
 
 impl Model for NodeValues {
-    ghost use Rattle.std.specs.Prelude.{ℕ, List};
-    ghost use Rattle.y_tree.specs.declared.Value.{Value as ValueOf};
+    ghost use Rattle.std.specs.Prelude.{ℕ, Bool, List};
 
-    ghost Value = { List (ℕ × ValueOf) };
+    ghost Value = { List (ℕ × Bool) };
 
     ghost view = { λ v. v.items.items };
 }
@@ -101,7 +99,7 @@ impl NodeValues {
     }
 
     /// Adds a node's value at the end. On an error the list is as before. O(1) amortized.
-    pub fn push(&mut self, item: (usize, Value)) -> Result<(), AllocError>
+    pub fn push(&mut self, item: (usize, bool)) -> Result<(), AllocError>
         ensures ok { OnOk result (self.new ≡ self.old ++ item ∷ []) }
         ensures err { OnErr result (self.new ≡ self.old) }
     {
@@ -124,7 +122,7 @@ impl NodeValues {
     }
 
     /// The entries in order. O(1).
-    pub fn as_slice(&self) -> &[(usize, Value)]
+    pub fn as_slice(&self) -> &[(usize, bool)]
         ensures { result.now ≡ self.now }
     {
         self.items.as_slice()
@@ -147,12 +145,10 @@ pub enum Node {
     True,
     /// The truth value false.
     False,
-    /// A constant, whose value is to be found. Nodes with one number have one value.
+    /// A Boolean constant, whose value is to be found. Nodes with one number have one value.
     Const {
         /// The number of the constant.
         number: u64,
-        /// Its type.
-        of: Sort,
     },
     /// The negation of a node.
     Not(usize),
@@ -221,7 +217,7 @@ impl Problem {
         match node {
             Node::True => true,
             Node::False => true,
-            Node::Const { number: _, of: _ } => true,
+            Node::Const { number: _ } => true,
             Node::Not(argument) => *argument < count,
             Node::And(arguments) => are_arguments(arguments.as_slice(), count),
             Node::Or(arguments) => are_arguments(arguments.as_slice(), count),

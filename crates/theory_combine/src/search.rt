@@ -7,8 +7,8 @@ ghost use Rattle.theory_combine.specs.Answers.{IfSat, IfUnsat, IsSolution, IsCon
 ghost use Rattle.theory_combine.specs.Search.{choice_of, next_choices, Collects, Evaluates, Combines, NodeHas, LitHas, Gives, Assigns};
 
 use crate::{Node, NodeLit, NodeValues, Places, Problem, Verdict};
+use indexmap::IndexSet;
 use std::alloc::{AllocError, Global};
-use y_tree::Value;
 
 /// Finds values of the constants under which every literal is true, or answers places of literals
 /// that are never true together. Takes the constants in order, tries true before false, gives each
@@ -49,10 +49,12 @@ pub fn decide(alloc: Global, problem: &Problem, lits: &[NodeLit]) -> Result<Verd
 fn constants_of(alloc: Global, nodes: &[Node]) -> Result<Vec<u64>, AllocError>
     ensures { IfOk result (λ v. Collects nodes.now v.items) }
 {
+    let mut seen: IndexSet<u64> = IndexSet::new(alloc);
     let mut constants: Vec<u64> = Vec::new(alloc);
     for node in nodes {
-        if let Node::Const { number, of: _ } = node {
-            if !constants.as_slice().contains(number) {
+        if let Node::Const { number } = node {
+            let is_new = seen.insert(*number)?;
+            if is_new {
                 constants.push(*number)?;
             }
         }
@@ -106,7 +108,7 @@ fn value_of(
     match node {
         Node::True => Some(true),
         Node::False => Some(false),
-        Node::Const { number, of: _ } => choice(constants, choices, *number),
+        Node::Const { number } => choice(constants, choices, *number),
         Node::Not(a) => match values[*a] {
             Some(known) => Some(!known),
             None => None,
@@ -184,9 +186,9 @@ fn assign(
 {
     let mut values = NodeValues::new(alloc);
     for (k, node) in nodes.iter().enumerate() {
-        if let Node::Const { number, of: _ } = node {
+        if let Node::Const { number } = node {
             let value = choice(constants, choices, *number).unwrap_or(false);
-            values.push((k, Value::Bool(value)))?;
+            values.push((k, value))?;
         }
     }
     Ok(values)

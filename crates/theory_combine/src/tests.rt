@@ -69,30 +69,9 @@ const NOT_FALSE: NodeLit = NodeLit {
 // Two constants, the first at two nodes, and operators over them.
 fn two_constants(rt: &impl Abort, alloc: Global) -> Result<Problem, AllocError> {
     let mut problem = Problem::new(alloc);
-    added(
-        rt,
-        &mut problem,
-        Node::Const {
-            number: 7,
-            of: Sort::Bool,
-        },
-    )?;
-    added(
-        rt,
-        &mut problem,
-        Node::Const {
-            number: 8,
-            of: Sort::Bool,
-        },
-    )?;
-    added(
-        rt,
-        &mut problem,
-        Node::Const {
-            number: 7,
-            of: Sort::Bool,
-        },
-    )?;
+    added(rt, &mut problem, Node::Const { number: 7 })?;
+    added(rt, &mut problem, Node::Const { number: 8 })?;
+    added(rt, &mut problem, Node::Const { number: 7 })?;
     added(rt, &mut problem, Node::Not(0))?;
     added(rt, &mut problem, Node::And(two(alloc, 0, 3)?))?;
     added(rt, &mut problem, Node::Or(two(alloc, 0, 1)?))?;
@@ -128,7 +107,7 @@ fn has_values(
     alloc: Global,
     problem: &Problem,
     lits: &[NodeLit],
-    values: &[(usize, Value)],
+    values: &[(usize, bool)],
 ) -> Result<bool, AllocError> {
     match verdict(rt, alloc, problem, lits)? {
         Verdict::Sat(found) => Ok(found.as_slice() == values),
@@ -141,7 +120,7 @@ fn decide_answers_by_truth_tables(rt: HostRuntime) -> Result<(), Fail> {
     let alloc = rt.alloc();
     let problem = two_constants(&rt, alloc)?;
     assert_eq!(rt; problem.len(), 8);
-    let (t, f) = (Value::Bool(true), Value::Bool(false));
+    let (t, f) = (true, false);
     let only_p = [(0, t), (1, f), (2, t)];
     let only_q = [(0, f), (1, t), (2, f)];
     assert!(rt; has_values(&rt, alloc, &problem, &[P, NOT_Q], &only_p)?);
@@ -165,7 +144,7 @@ fn decide_answers_by_truth_tables(rt: HostRuntime) -> Result<(), Fail> {
 #[test]
 fn no_literals_are_satisfied_by_no_values(rt: HostRuntime) -> Result<(), Fail> {
     let alloc = rt.alloc();
-    let none: [(usize, Value); 0] = [];
+    let none: [(usize, bool); 0] = [];
     assert!(rt; has_values(&rt, alloc, &Problem::new(alloc), &[], &none)?);
     Ok(())
 }
@@ -178,8 +157,8 @@ fn lists_keep_what_is_pushed(rt: HostRuntime) -> Result<(), Fail> {
     assert_eq!(rt; places.len(), 2);
     let mut values = NodeValues::new(alloc);
     assert!(rt; values.is_empty());
-    values.push((3, Value::Bool(true)))?;
-    assert_eq!(rt; values.as_slice(), [(3, Value::Bool(true))].as_slice());
+    values.push((3, true))?;
+    assert_eq!(rt; values.as_slice(), [(3, true)].as_slice());
     assert_eq!(rt; values.len(), 1);
     Ok(())
 }

@@ -1,79 +1,98 @@
 //! The values of nodes where the constants have given values.
 
-ghost use Rattle.std.specs.Prelude.{◌≡◌, ℕ, ◌<◌, ◌≤◌, ◌++◌, ◌∷◌, [], Some, All, length, slice_get, IfOk, OnOk, OnErr};
+ghost use Rattle.std.specs.Prelude.{◌≡◌, ◌<◌, Some, All, length, IfOk};
 ghost use Rattle.std.specs.List.{list_all, list_any};
-ghost use Rattle.y_tree.specs.declared.Value.{Value as ValueOf};
-ghost use Rattle.y_tree.specs.Meaning.{truth_of, apply, value_in, meaning};
-ghost use Rattle.theory_combine.specs.Nodes.{op_of, arguments_of, tree_at, number_of, number_at, assignment_of};
-ghost use Rattle.theory_combine.specs.Values.{values_at, AreValues};
+ghost use Rattle.y_tree.specs.Sorts.{boolean};
+ghost use Rattle.y_tree.specs.Values.{truth};
+ghost use Rattle.y_tree.specs.Meaning.{truth_of, apply, value_in};
+ghost use Rattle.theory_combine.specs.Nodes.{op_of, arguments_of, number_of, number_at, constants_in, booleans};
+ghost use Rattle.theory_combine.specs.Values.{values_at, AreValues, IsTable};
 
 use crate::{Node, NodeValues, Problem};
+use indexmap::IndexMap;
 use std::alloc::{AllocError, Global};
 use std::marker::Model;
-use y_tree::{Sort, Value};
+use y_erased::{Erased, Makes, made};
 
-/// Values of constants, by the constants' numbers. The first value of a number counts.
-#[derive(Debug, Drop)]
+// The truth values of the constants that stand at nodes.
+struct ConstantsIn;
+
+impl Makes for ConstantsIn {
+    type From = Problem;
+
+    type With = NodeValues;
+
+    type Of = NodeValues;
+
+    ghost make = { constants_in };
+}
+
+/// Truth values of constants, by the constants' numbers. The first value of a number counts.
+#[derive(Drop)]
 pub struct ConstValues {
-    items: Vec<(u64, Value)>,
+    // The value that counts, for each number.
+    table: IndexMap<u64, bool>,
+    // All values.
+    given: Erased<NodeValues>,
 }
 
 impl Model for ConstValues {
-    ghost use Rattle.y_tree.specs.Meaning.{Assignment};
+    ghost use Rattle.std.specs.Prelude.{ℕ, Bool, List};
+    ghost use Rattle.theory_combine.specs.Values.{IsTable};
 
-    ghost Value = { Assignment };
+    ghost Value = { List (ℕ × Bool) };
 
-    ghost view = { λ v. v.items.items };
+    ghost view = { λ v. v.given.value };
+
+    ghost invariant = { λ v. IsTable v.table.entries v.given.value };
 }
 
 impl ConstValues {
-    // No values.
-    fn new(alloc: Global) -> Self
-        ensures { result ≡ [] }
+    /// The value of the Boolean constant with that number, and false where it has none. Expected
+    /// O(1).
+    pub fn value(&self, number: u64) -> bool
+        ensures { truth result ≡ value_in (booleans self.now).constants number boolean }
     {
-        ConstValues {
-            items: Vec::new(alloc),
+        match self.table.get(&number) {
+            Some(value) => *value,
+            None => false,
         }
-    }
-
-    // Adds the value of a constant at the end.
-    fn push(&mut self, item: (u64, Value)) -> Result<(), AllocError>
-        ensures ok { OnOk result (self.new ≡ self.old ++ item ∷ []) }
-        ensures err { OnErr result (self.new ≡ self.old) }
-    {
-        self.items.push(item)?;
-        Ok(())
-    }
-
-    /// The value of the constant with that number and type, and its type's zero where it has none.
-    /// O(n) for n values.
-    pub fn value(&self, number: u64, of: Sort) -> Value
-        ensures { result ≡ value_in self.now number of }
-    {
-        for item in &self.items {
-            if item.0 == number {
-                return item.1;
-            }
-        }
-        of.zero()
     }
 }
 
-/// The values of the constants that stand at nodes, by the constants' numbers. O(n) for n values.
+/// The values of the constants that stand at nodes, by the constants' numbers. Expected O(n) for n
+/// values.
 pub fn constant_values(
     alloc: Global,
     problem: &Problem,
     values: &NodeValues,
 ) -> Result<ConstValues, AllocError>
-    ensures { IfOk result (λ s. s ≡ assignment_of problem.now values.now) }
+    ensures { IfOk result (λ s. s ≡ constants_in problem.now values.now) }
 {
-    let mut found = ConstValues::new(alloc);
-    for item in values.as_slice() {
-        if let Some(number) = constant_at(problem, item.0) {
-            found.push((number, item.1))?;
+    let table = table_of(alloc, problem, values)?;
+    Ok(ConstValues {
+        table,
+        given: made::<ConstantsIn>(problem, values),
+    })
+}
+
+// The value that counts for each constant: the first comes last, and takes the place of the others.
+fn table_of(
+    alloc: Global,
+    problem: &Problem,
+    values: &NodeValues,
+) -> Result<IndexMap<u64, bool>, AllocError>
+    ensures { IfOk result (λ t. IsTable t.entries (constants_in problem.now values.now)) }
+{
+    let items = values.as_slice();
+    let mut table: IndexMap<u64, bool> = IndexMap::new(alloc);
+    for i in (0..items.len()).rev() {
+        let (k, value) = items[i];
+        if let Some(number) = constant_at(problem, k) {
+            table.insert(number, value)?;
         }
     }
-    Ok(found)
+    Ok(table)
 }
 
 // The number of the constant at a node, if one stands there.
@@ -91,23 +110,23 @@ fn constant_of(node: &Node) -> Option<u64>
     ensures { result ≡ number_of (Some node.now) }
 {
     match node {
-        Node::Const { number, of: _ } => Some(*number),
+        Node::Const { number } => Some(*number),
         _ => None,
     }
 }
 
 /// The value of each node where the constants have the given values, in one pass over the nodes.
-/// O(n c + a) for n nodes with a arguments in all and c given values.
+/// Expected O(n + a) for n nodes with a arguments in all.
 pub fn values_under(
     alloc: Global,
     problem: &Problem,
     given: &ConstValues,
-) -> Result<Vec<Value>, AllocError>
+) -> Result<Vec<bool>, AllocError>
     ensures each { IfOk result (λ v. length v.items ≡ length problem.now) }
-    ensures right { IfOk result (λ v. AreValues problem.now given.now v.items) }
+    ensures right { IfOk result (λ v. AreValues problem.now (booleans given.now) v.items) }
 {
     let nodes = problem.nodes.as_slice();
-    let mut values: Vec<Value> = Vec::new(alloc);
+    let mut values: Vec<bool> = Vec::new(alloc);
     for k in 0..nodes.len() {
         let value = value_over(&nodes[k], values.as_slice(), given);
         values.push(value)?;
@@ -116,27 +135,27 @@ pub fn values_under(
 }
 
 // The value of a node over the values of earlier ones.
-fn value_over(node: &Node, values: &[Value], given: &ConstValues) -> Value
+fn value_over(node: &Node, values: &[bool], given: &ConstValues) -> bool
     requires { All (λ a. a < length values.now) (arguments_of node.now) }
-    ensures { result ≡ apply (op_of node.now) (values_at values.now (arguments_of node.now)) given.now }
+    ensures { truth result ≡ apply (op_of node.now) boolean (values_at values.now (arguments_of node.now)) (booleans given.now) }
 {
     match node {
-        Node::True => Value::Bool(true),
-        Node::False => Value::Bool(false),
-        Node::Const { number, of } => given.value(*number, *of),
-        Node::Not(argument) => Value::Bool(!values[*argument].is_true()),
-        Node::And(arguments) => Value::Bool(all_true(values, arguments.as_slice())),
-        Node::Or(arguments) => Value::Bool(some_true(values, arguments.as_slice())),
+        Node::True => true,
+        Node::False => false,
+        Node::Const { number } => given.value(*number),
+        Node::Not(argument) => !values[*argument],
+        Node::And(arguments) => all_true(values, arguments.as_slice()),
+        Node::Or(arguments) => some_true(values, arguments.as_slice()),
     }
 }
 
 // Whether all values at the places are true.
-fn all_true(values: &[Value], places: &[usize]) -> bool
+fn all_true(values: &[bool], places: &[usize]) -> bool
     requires { All (λ a. a < length values.now) places.now }
     ensures { result ≡ list_all truth_of (values_at values.now places.now) }
 {
     for place in places {
-        if !values[*place].is_true() {
+        if !values[*place] {
             return false;
         }
     }
@@ -144,12 +163,12 @@ fn all_true(values: &[Value], places: &[usize]) -> bool
 }
 
 // Whether some value at the places is true.
-fn some_true(values: &[Value], places: &[usize]) -> bool
+fn some_true(values: &[bool], places: &[usize]) -> bool
     requires { All (λ a. a < length values.now) places.now }
     ensures { result ≡ list_any truth_of (values_at values.now places.now) }
 {
     for place in places {
-        if values[*place].is_true() {
+        if values[*place] {
             return true;
         }
     }

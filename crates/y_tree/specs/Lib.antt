@@ -1,3 +1,16 @@
+pub mod Sorts
+pub mod Values
+pub mod Order
+pub mod BitVectors
 pub mod Tree
+pub mod Typing
+pub mod Misfits
 pub mod Meaning
+pub mod Codes
+pub mod Laws
+pub mod Examples
 pub mod Texts
+pub mod Reading
+pub mod Pieces
+pub mod Counting
+pub mod Plain

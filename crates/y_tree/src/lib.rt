@@ -1,52 +1,110 @@
-//! Types and values of terms. The definitions of trees, assignments and meaning stand in `specs/`.
+//! Terms as plain mathematics: types, values, and in `specs/` the trees, their typing and their meaning, with every
+//! operator of the language; in code the types and values as data, with their order, sameness, zero and texts.
+//!
+//! Its contract: each call answers what one of the definitions says of its arguments, `value_text` for the text of a
+//! value, and `read_value` is the way back, with `BadText` and `Wide` exactly where no value has the text. A value of
+//! the code is right because a fold makes of it the value of the definitions, and each clause speaks of that alone. The
+//! definitions are kept honest by laws (`laws`): a well-typed tree means a value of its type under every assignment,
+//! sameness is an equivalence that every operator keeps, two functions are one exactly where they agree at each tuple
+//! of their domain, and what is told of ill-typed arguments is the first that misfits.
+//!
+//! The operators on bit-vectors are those of SMT-LIB 2's theory FixedSizeBitVectors, division by zero included, those on
+//! numbers those of its theories Ints and Reals, under the names of Yices 2's language.
 #![tactic(auto)]
 
-ghost use Rattle.std.specs.Prelude.{◌≡◌};
-ghost use Rattle.y_tree.specs.Meaning.{zero_of, truth_of};
-ghost use Rattle.y_tree.specs.Texts.{value_text};
+mod copies;
+mod counting;
+mod errors;
+mod functions;
+pub mod laws;
+mod numbers;
+mod order;
+mod read;
+mod sameness;
+mod sorts;
+#[cfg(test)]
+mod tests;
+mod values;
+mod words;
+mod write;
+mod zero;
 
-/// A type as plain data, without a table of types.
+pub use copies::{copy_function, copy_sort, copy_value, copy_values};
+pub use errors::ValueError;
+pub use order::{cmp_keys, value_cmp};
+pub use read::read_value;
+pub use sameness::{same_function, same_value};
+pub use sorts::{Sort, Sorts, same_sort};
+pub use values::{Entry, FunValue, Value, Values};
+pub use write::write_value;
+pub use zero::zero_of;
+
+/// An operator on bit-vectors.
 #[derive(Clone, Copy, Debug, PartialEq, Eq, Hash)]
-pub enum Sort {
-    /// The type of truth values.
-    Bool,
+pub enum BvOp {
+    /// The sum.
+    Add,
+    /// The difference.
+    Sub,
+    /// The product.
+    Mul,
+    /// The negation.
+    Neg,
+    /// The unsigned quotient, rounded down.
+    Div,
+    /// The unsigned remainder.
+    Rem,
+    /// The signed quotient, rounded towards 0.
+    Sdiv,
+    /// The signed remainder, with the sign of the dividend.
+    Srem,
+    /// The signed remainder, with the sign of the divisor.
+    Smod,
+    /// Each bit inverted.
+    Not,
+    /// The conjunction bit by bit.
+    And,
+    /// The disjunction bit by bit.
+    Or,
+    /// The exclusive disjunction bit by bit.
+    Xor,
+    /// The shift to the left by an unsigned number.
+    Shl,
+    /// The shift to the right by an unsigned number, with zeros.
+    Lshr,
+    /// The shift to the right by an unsigned number, with copies of the sign bit.
+    Ashr,
+    /// The first operand's bits before the second's.
+    Concat,
+    /// At least, unsigned.
+    Ge,
+    /// Greater, unsigned.
+    Gt,
+    /// At most, unsigned.
+    Le,
+    /// Less, unsigned.
+    Lt,
+    /// At least, in two's complement.
+    Sge,
+    /// Greater, in two's complement.
+    Sgt,
+    /// At most, in two's complement.
+    Sle,
+    /// Less, in two's complement.
+    Slt,
 }
 
-impl Sort {
-    /// The value that a constant of the type has where none is stated.
-    pub fn zero(self) -> Value
-        ensures { result ≡ zero_of self }
-    {
-        match self {
-            Sort::Bool => Value::Bool(false),
-        }
-    }
-}
-
-/// A value of some type.
+/// An operator on one bit-vector with one or two numbers.
 #[derive(Clone, Copy, Debug, PartialEq, Eq, Hash)]
-pub enum Value {
-    /// A truth value.
-    Bool(bool),
-}
-
-impl Value {
-    /// Whether the value is the truth value true.
-    pub fn is_true(self) -> bool
-        ensures { result ≡ truth_of self }
-    {
-        match self {
-            Value::Bool(truth) => truth,
-        }
-    }
-
-    /// The text of the value, as it is printed.
-    pub fn text(self) -> &'static str
-        ensures { result.now ≡ value_text self }
-    {
-        match self {
-            Value::Bool(true) => "true",
-            Value::Bool(false) => "false",
-        }
-    }
+pub enum BvAtOp {
+    /// The shift to the left by that number, with zeros.
+    ShiftLeft0,
+    /// The shift to the right by that number, with zeros.
+    ShiftRight0,
+    /// The bits from the first number down to the second.
+    Extract,
+    /// That many copies of the sign bit before the bits.
+    SignExtend,
+    /// That many zeros before the bits.
+    ZeroExtend,
 }

@@ -5,8 +5,8 @@ use Rattle.std.specs.Prelude.{codes, ◌==◌, nat_lt}
 use Rattle.std.proofs.lemmas.Bool.{eqb-true}
 use Rattle.std.specs.List.{AllByRecursion}
 use Rattle.std.specs.Str.{bytes_eq}
-use Rattle.y_tree.specs.declared.Sort.{Sort}
-use Rattle.y_tree.specs.Tree.{constant, negation, conjunction, disjunction, Tree, Trees, node, trees}
+use Rattle.y_tree.specs.Sorts.{boolean}
+use Rattle.y_tree.specs.Tree.{constant, negation, conjunction, disjunction, Tree, Trees, node, trees, count}
 use Rattle.y_tree.specs.Tree as tree
 use Rattle.theory_combine.specs.declared.Node.{Node}
 use Rattle.theory_combine.specs.declared.Node.TheVariants as node_of
@@ -22,7 +22,7 @@ use Rattle.yices_text.specs.Plain.{plain}
 use Rattle.yices_grammar.specs.Grammar as grammar
 use Rattle.yices_session.specs.declared.refusal.Stop.{Stop}
 use Rattle.yices_session.specs.declared.refusal.Stop.TheVariants as stop
-use Rattle.yices_session.specs.State.{Named, Cause, known, join, over, op_named, takes, count, tree_named, tree_of, trees_of}
+use Rattle.yices_session.specs.State.{Named, Cause, known, join, over, op_named, takes, tree_named, tree_of, trees_of}
 use Rattle.yices_session.specs.Steps.{cause_in}
 use Rattle.yices_session.specs.Held.{names_in, named_in, NumberBelow}
 use Rattle.yices_session.specs.Building.{AreNamed, Extends, Builds, BuildsAll, BuildsSome, Finds, IsUnbuilt, in_front}
@@ -33,7 +33,7 @@ use Rattle.yices_session.specs.declared.refusal.Refusal.TheVariants as refusal
 number_below : (m n : ℕ) → m ≤ n → (x : Node) → NumberBelow m x → NumberBelow n x
 number_below m n le node_of.True h = tt
 number_below m n le node_of.False h = tt
-number_below m n le (node_of.Const number of) h = omega (arith, h, le)
+number_below m n le (node_of.Const number) h = omega (arith, h, le)
 number_below m n le (node_of.Not a) h = tt
 number_below m n le (node_of.And args) h = tt
 number_below m n le (node_of.Or args) h = tt
@@ -165,15 +165,15 @@ takes_one w v b n same test set takes_so =
     eqb-true n 1 (ap (λ t. cond t (n == 1) (nat_lt 0 n)) (sym is) ∙ takes_so)
 
 -- no operator is a constant
-no_constant : (a b : Bool) (number : ℕ) (of : Sort) → constant number of ≡ cond a negation (cond b conjunction disjunction) → ⊥
-no_constant true b number of is = absurd (cc is)
-no_constant false true number of is = absurd (cc is)
-no_constant false false number of is = absurd (cc is)
+no_constant : (a b : Bool) (number : ℕ) → constant number boolean ≡ cond a negation (cond b conjunction disjunction) → ⊥
+no_constant true b number is = absurd (cc is)
+no_constant false true number is = absurd (cc is)
+no_constant false false number is = absurd (cc is)
 
 operator_node : (n : Node) (w : List ℕ) → op_of n ≡ op_named w → NumberBelow 0 n
 operator_node node_of.True w is = tt
 operator_node node_of.False w is = tt
-operator_node (node_of.Const number of) w is = absurd (no_constant (bytes_eq w (codes "not")) (bytes_eq w (codes "and")) number of is)
+operator_node (node_of.Const number) w is = absurd (no_constant (bytes_eq w (codes "not")) (bytes_eq w (codes "and")) number is)
 operator_node (node_of.Not a) w is = tt
 operator_node (node_of.And args) w is = tt
 operator_node (node_of.Or args) w is = tt

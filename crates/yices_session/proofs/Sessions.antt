@@ -1,19 +1,20 @@
 -- What a session keeps from one command to the next.
-use Rattle.std.proofs.Common.{ℕ, zero, suc, ◌≡◌, ◌<◌, ◌≤◌, ◌+◌, ◌∙◌, List, [], ◌∷◌, ◌++◌, Option, Some, None, Result, Ok, Err, true, false, cond, is_some, length, take, drop, All, refl, sym, ap, subst, arith, inl, inr, length-append}
+use Rattle.std.proofs.Common.{ℕ, zero, suc, ◌≡◌, ◌<◌, ◌≤◌, ◌+◌, ◌∙◌, List, [], ◌∷◌, ◌++◌, Option, Some, None, Result, Ok, Err, Bool, true, false, cond, is_some, length, take, drop, All, refl, sym, ap, subst, arith, inl, inr, length-append}
 use Rattle.std.specs.Prelude.{slice_get, codes, nat_le, IfOk, OnErr}
 use Rattle.std.specs.List.{AllByRecursion}
+use Rattle.std.specs.Option.{option_map}
 use Rattle.std.proofs.lemmas.Option.{same_Some}
 use Rattle.std.proofs.lemmas.List.{take_all, drop_all, take-append-le, drop-append-le, length-take-le}
 use Rattle.std.proofs.lemmas.Bool.{eq-eqb, le-leb}
-use Rattle.y_tree.specs.declared.Sort.TheVariants as sort
-use Rattle.y_tree.specs.declared.Value.{Value}
+use Rattle.y_tree.specs.Sorts.{boolean}
+use Rattle.y_tree.specs.Values.{Value}
 use Rattle.y_tree.specs.Tree.{constant, Tree, node}
 use Rattle.y_tree.specs.Tree as tree
 use Rattle.y_tree.specs.Meaning.{Assignment, Satisfies}
 use Rattle.theory_combine.specs.declared.Node.{Node}
 use Rattle.theory_combine.specs.declared.Node.TheVariants as node_of
 use Rattle.theory_combine.specs.declared.NodeLit.{NodeLit}
-use Rattle.theory_combine.specs.Nodes.{tree_at, number_of, number_at, entry_of, assignment_of, MakesAll}
+use Rattle.theory_combine.specs.Nodes.{tree_at, number_of, number_at, entry_of, constants_in, booleans, MakesAll}
 use Rattle.theory_combine.specs.Answers.{IsSolution, IsConflict}
 use Rattle.yices_grammar.specs.Grammar.{Expr}
 use Rattle.yices_grammar.specs.declared.Place.{Place}
@@ -58,8 +59,8 @@ on_more h new sound e constants = record {
 
 stays_more : (h : Held) (new : List Node) → IsSound h → Longer h.nodes new → state_of (with_nodes h new) ≡ state_of h
 stays_more h new sound e =
-    ap (λ names. let s : State = record { names = names; lists = levels_in h.marks (formulas_in new h.formulas); model = h.model } in s) (names_stay h.nodes new e h.names sound.names)
-    ∙ ap (λ formulas. let s : State = record { names = names_in h.nodes h.names; lists = levels_in h.marks formulas; model = h.model } in s) (formulas_stay h.nodes new e h.formulas sound.formulas)
+    ap (λ names. let s : State = record { names = names; lists = levels_in h.marks (formulas_in new h.formulas); model = option_map booleans h.model } in s) (names_stay h.nodes new e h.names sound.names)
+    ∙ ap (λ formulas. let s : State = record { names = names_in h.nodes h.names; lists = levels_in h.marks formulas; model = option_map booleans h.model } in s) (formulas_stay h.nodes new e h.formulas sound.formulas)
 
 -- more nodes that are no constants change nothing
 pub sound_same : (h k : Held) (new : List Node) → IsSound h → Extends h.nodes new → k ≡ with_nodes h new → IsSound k
@@ -83,7 +84,7 @@ module _ (h : Held) (new : List Node) (w : List ℕ) (b : Binding) (sound : IsSo
 
   named_state : state_of named ≡ with_name (state_of h) (named_in new (w, b))
   named_state =
-      ap (λ names. let s : State = record { names = names; lists = levels_in h.marks (formulas_in new h.formulas); model = h.model } in s) (map-push (named_in new) h.names (w, b))
+      ap (λ names. let s : State = record { names = names; lists = levels_in h.marks (formulas_in new h.formulas); model = option_map booleans h.model } in s) (map-push (named_in new) h.names (w, b))
       ∙ ap (λ (s : State). with_name s (named_in new (w, b))) (stays_more h new sound more)
 
 one_more : (h : Held) (w : List ℕ) (b : Binding) → length (h.names ++ (w, b) ∷ []) ≡ length h.names + 1
@@ -111,28 +112,28 @@ module _ (h g k : Held) (e : Expr) (w key : List ℕ) (n : ℕ) (sound : IsSound
 
 -- a declaration
 module _ (h g k : Held) (w key : List ℕ) (number n : ℕ) (sound : IsSound h) (same : key ≡ w) (new : List Node) (numbered : number ≡ length h.names)
-    (grown : new ≡ h.nodes ++ node_of.Const number sort.Bool ∷ []) (here : n ≡ length h.nodes)
+    (grown : new ≡ h.nodes ++ node_of.Const number ∷ []) (here : n ≡ length h.nodes)
     (is : k ≡ record h { names = h.names ++ (key, record { node = n; has_value = false }) ∷ []; nodes = new }) where
   abbrev bound : Binding
   bound = record { node = n; has_value = false }
 
   by_one : Longer h.nodes new
-  by_one = record { added = node_of.Const number sort.Bool ∷ []; is = grown }
+  by_one = record { added = node_of.Const number ∷ []; is = grown }
 
   within_new : n < length new
-  within_new = omega (arith, here, ap length grown, length-append h.nodes (node_of.Const number sort.Bool ∷ []))
+  within_new = omega (arith, here, ap length grown, length-append h.nodes (node_of.Const number ∷ []))
 
   pub declared_sound : IsSound k
   declared_sound =
       rw is (named_sound h new key bound sound by_one within_new
-      (rw grown (all-append (NumberBelow (length (h.names ++ (key, bound) ∷ []))) h.nodes (node_of.Const number sort.Bool ∷ [])
+      (rw grown (all-append (NumberBelow (length (h.names ++ (key, bound) ∷ []))) h.nodes (node_of.Const number ∷ [])
       (numbers_below (length h.names) (length (h.names ++ (key, bound) ∷ [])) (omega (arith, one_more h key bound)) h.nodes sound.constants)
       (omega (arith, numbered, one_more h key bound), tt))))
 
   new_tree : tree_at new n ≡ next_constant (state_of h)
   new_tree =
-      leaf h.nodes new (node_of.Const number sort.Bool) n refl grown here
-      ∙ ap (λ (m : ℕ). node (constant m sort.Bool) tree.none) (numbered ∙ sym (length_mapped (named_in h.nodes) h.names))
+      leaf h.nodes new (node_of.Const number) n refl grown here
+      ∙ ap (λ (m : ℕ). node (constant m boolean) tree.none) (numbered ∙ sym (length_mapped (named_in h.nodes) h.names))
 
   pub declared_at : binding_of w h.names ≡ None → h ≡ g → Declares (state_of g) w [] (state_of k)
   declared_at free seen =
@@ -316,34 +317,39 @@ levels_hold s [] ts h = h.0
 levels_hold s (m ∷ ms) ts h = true_both s m ts (levels_hold s ms (take m ts) h.1) h.0
 
 -- values of constants of nodes have numbers below the bound of the constants
-entry_below : (n : ℕ) (o : Option Node) (v : Value) → ((x : Node) → o ≡ Some x → NumberBelow n x) → AllByRecursion (λ (e : ℕ × Value). e.0 < n) (entry_of (number_of o) v)
-entry_below n None v h = tt
-entry_below n (Some node_of.True) v h = tt
-entry_below n (Some node_of.False) v h = tt
-entry_below n (Some (node_of.Const number of)) v h = (h (node_of.Const number of) refl, tt)
-entry_below n (Some (node_of.Not a)) v h = tt
-entry_below n (Some (node_of.And args)) v h = tt
-entry_below n (Some (node_of.Or args)) v h = tt
+entry_below : (n : ℕ) (o : Option Node) (b : Bool) → ((x : Node) → o ≡ Some x → NumberBelow n x) → AllByRecursion (λ (e : ℕ × Bool). e.0 < n) (entry_of (number_of o) b)
+entry_below n None b h = tt
+entry_below n (Some node_of.True) b h = tt
+entry_below n (Some node_of.False) b h = tt
+entry_below n (Some (node_of.Const number)) b h = (h (node_of.Const number) refl, tt)
+entry_below n (Some (node_of.Not a)) b h = tt
+entry_below n (Some (node_of.And args)) b h = tt
+entry_below n (Some (node_of.Or args)) b h = tt
 
 below_at : (n : ℕ) (nodes : List Node) → AllByRecursion (NumberBelow n) nodes → (k : ℕ) (x : Node) → slice_get nodes k ≡ Some x → NumberBelow n x
 below_at n [] h k x e = absurd (cc e)
 below_at n (y ∷ nodes) h zero x e = subst (NumberBelow n) (same_Some y x e) h.0
 below_at n (y ∷ nodes) h (suc k) x e = below_at n nodes h.1 k x e
 
-values_below : (n : ℕ) (nodes : List Node) → AllByRecursion (NumberBelow n) nodes → (values : List (ℕ × Value)) → AllByRecursion (λ (e : ℕ × Value). e.0 < n) (assignment_of nodes values)
+values_below : (n : ℕ) (nodes : List Node) → AllByRecursion (NumberBelow n) nodes → (values : List (ℕ × Bool)) → AllByRecursion (λ (e : ℕ × Bool). e.0 < n) (constants_in nodes values)
 values_below n nodes h [] = tt
 values_below n nodes h (e ∷ es) =
-    all-append (λ (d : ℕ × Value). d.0 < n) (entry_of (number_at nodes e.0) e.1) (assignment_of nodes es) (entry_below n (slice_get nodes e.0) e.1 (below_at n nodes h e.0)) (values_below n nodes h es)
+    all-append (λ (d : ℕ × Bool). d.0 < n) (entry_of (number_at nodes e.0) e.1) (constants_in nodes es) (entry_below n (slice_get nodes e.0) e.1 (below_at n nodes h e.0)) (values_below n nodes h es)
+
+entries_below : (n : ℕ) (es : List (ℕ × Bool)) → AllByRecursion (λ (e : ℕ × Bool). e.0 < n) es → AllByRecursion (λ (e : ℕ × Value). e.0 < n) (booleans es).constants
+entries_below n [] h = tt
+entries_below n (e ∷ es) h = (h.0, entries_below n es h.1)
 
 module _ (h g : Held) (lits : List NodeLit) (sound : IsSound h) (same : lits ≡ h.formulas) where
-  pub sat_at : (values : List (ℕ × Value)) (s : Assignment) → IsSolution h.nodes lits values → s ≡ assignment_of h.nodes values → h ≡ g
+  pub sat_at : (values s : List (ℕ × Bool)) → IsSolution h.nodes lits values → s ≡ constants_in h.nodes values → h ≡ g
       → Checks (state_of g) (codes "sat\n") (state_of (record h { model = Some s }))
   sat_at values s solution found seen =
       subst (λ x. Checks (state_of x) (codes "sat\n") (state_of (record h { model = Some s }))) seen
       (inl (record {
-        values = s;
-        holds = holds_levels s h.marks (formulas_in h.nodes h.formulas) (satisfies_all h.nodes s h.formulas sound.formulas (rw (found, ← same) solution.makes));
-        declared = rw (found, length_mapped (named_in h.nodes) h.names) (values_below (length h.names) h.nodes sound.constants values);
+        values = booleans s;
+        holds = holds_levels (booleans s) h.marks (formulas_in h.nodes h.formulas) (satisfies_all h.nodes (booleans s) h.formulas sound.formulas (rw (found, ← same) solution.makes));
+        declared = rw (found, length_mapped (named_in h.nodes) h.names) (entries_below (length h.names) (constants_in h.nodes values) (values_below (length h.names) h.nodes sound.constants values));
+        no_variables = refl;
         says = refl;
         after = refl;
       }))
@@ -360,10 +366,10 @@ module _ (h g : Held) (lits : List NodeLit) (sound : IsSound h) (same : lits ≡
 
 -- an evaluation
 module _ (h g k : Held) (e : Expr) (n : ℕ) (new : List Node) (sound : IsSound h) (extends : Extends h.nodes new) (is : k ≡ with_nodes h new) (seen : h ≡ g) (r : Result Reply Stop) where
-  pub evaluated_at : Builds h.names h.nodes new e n → IfOk r (λ x. reply_text x ≡ value_reply h.model (tree_at new n)) → IfOk r (λ x. Evaluates (state_of g) e (reply_text x) (state_of k))
+  pub evaluated_at : Builds h.names h.nodes new e n → IfOk r (λ x. reply_text x ≡ value_reply (option_map booleans h.model) (tree_at new n)) → IfOk r (λ x. Evaluates (state_of g) e (reply_text x) (state_of k))
   evaluated_at built says = go r says
     where
-      go : (r : Result Reply Stop) → IfOk r (λ x. reply_text x ≡ value_reply h.model (tree_at new n)) → IfOk r (λ x. Evaluates (state_of g) e (reply_text x) (state_of k))
+      go : (r : Result Reply Stop) → IfOk r (λ x. reply_text x ≡ value_reply (option_map booleans h.model) (tree_at new n)) → IfOk r (λ x. Evaluates (state_of g) e (reply_text x) (state_of k))
       go (Err s) says = tt
       go (Ok x) says = subst (λ y. Evaluates (state_of y) e (reply_text x) (state_of k)) seen (record {
         term = tree_at new n;

@@ -5,7 +5,7 @@ use Rattle.std.specs.declared.string.String.{String}
 use Rattle.std.specs.declared.alloc.Global.{Global}
 use Rattle.std.proofs.lemmas.List.{at_drop_more, at_drop_all}
 use Rattle.std.proofs.lemmas.Option.{same_Some, slice_get_within, get_or_from_slice_get, slice_get-get_or}
-use Rattle.y_tree.specs.declared.Value.{Value}
+use Rattle.y_tree.specs.Values.{Value, truth}
 use Rattle.y_tree.specs.Meaning.{Assignment, meaning}
 use Rattle.theory_combine.specs.declared.Node.{Node}
 use Rattle.theory_combine.specs.Nodes.{tree_at}
@@ -23,7 +23,7 @@ named_at nodes (d ∷ es) zero e named is = subst (λ (x : String Global × Bind
 named_at nodes (d ∷ es) (suc i) e named is = named_at nodes es i e named.1 is
 
 -- and has a value
-pub value_at : (nodes : List Node) (s : Assignment) (values : List Value) (k : ℕ) (d : Value) → AreValues nodes s values → k < length values → get_or values k d ≡ meaning (tree_at nodes k) s
+pub value_at : (nodes : List Node) (s : Assignment) (values : List Bool) (k : ℕ) (d : Bool) → AreValues nodes s values → k < length values → truth (get_or values k d) ≡ meaning (tree_at nodes k) s
 value_at nodes s values k d are h = are.right k (get_or values k d) (slice_get-get_or values k d h)
 
 module _ (nodes : List Node) (s : Assignment) (es : List (String Global × Binding)) (i : ℕ) (text : List ℕ) where

@@ -1,12 +1,12 @@
 -- What a session of the code keeps, and the state that it stands for.
-use Rattle.std.specs.Prelude.{◌≡◌, ℕ, ◌<◌, ◌≤◌, true, false, List, [], ◌∷◌, Option, Some, length, map, take, drop}
+use Rattle.std.specs.Prelude.{◌≡◌, ℕ, ◌<◌, ◌≤◌, Bool, true, false, List, [], ◌∷◌, Option, Some, length, map, take, drop}
 use Rattle.std.specs.List.{AllByRecursion}
+use Rattle.std.specs.Option.{option_map}
 use Rattle.y_tree.specs.Tree.{Tree}
-use Rattle.y_tree.specs.Meaning.{Assignment}
 use Rattle.theory_combine.specs.declared.Node.{Node}
 use Rattle.theory_combine.specs.declared.Node.TheVariants as node_of
 use Rattle.theory_combine.specs.declared.NodeLit.{NodeLit}
-use Rattle.theory_combine.specs.Nodes.{tree_at}
+use Rattle.theory_combine.specs.Nodes.{tree_at, booleans}
 use Rattle.yices_grammar.specs.Grammar.{Command}
 use Rattle.yices_session.specs.declared.refusal.Stop.{Stop}
 use Rattle.yices_session.specs.declared.refusal.Stop.TheVariants as stop
@@ -14,13 +14,13 @@ use Rattle.yices_session.specs.declared.names.Binding.{Binding}
 use Rattle.yices_session.specs.State.{Named, State, Cause}
 use Rattle.yices_session.specs.Steps.{refusal_of}
 
--- names with what they stand for, the nodes, a literal for each formula, how many formulas there were as each level was opened, the newest level first, and the kept model
+-- names with what they stand for, the nodes, a literal for each formula, how many formulas there were as each level was opened, the newest level first, and the kept model, truth values of constants by their numbers
 pub record Held : Type 0 where
   pub names : List (List ℕ × Binding)
   pub nodes : List Node
   pub formulas : List NodeLit
   pub marks : List ℕ
-  pub model : Option Assignment
+  pub model : Option (List (ℕ × Bool))
 
 -- a name with the tree of its node
 abbrev pub named_in : List Node → List ℕ × Binding → Named
@@ -41,7 +41,7 @@ levels_in (m ∷ ms) ts = drop m ts ∷ levels_in ms (take m ts)
 
 -- the state that is kept
 abbrev pub state_of : Held → State
-state_of h = record { names = names_in h.nodes h.names; lists = levels_in h.marks (formulas_in h.nodes h.formulas); model = h.model }
+state_of h = record { names = names_in h.nodes h.names; lists = levels_in h.marks (formulas_in h.nodes h.formulas); model = option_map booleans h.model }
 
 -- the marks fall, from at most n on
 abbrev pub AreMarks : List ℕ → ℕ → Type 0
@@ -52,7 +52,7 @@ AreMarks (m ∷ ms) n = (m ≤ n) × AreMarks ms m
 abbrev pub NumberBelow : ℕ → Node → Type 0
 NumberBelow n node_of.True = Unit {0}
 NumberBelow n node_of.False = Unit {0}
-NumberBelow n (node_of.Const number of) = number < n
+NumberBelow n (node_of.Const number) = number < n
 NumberBelow n (node_of.Not a) = Unit {0}
 NumberBelow n (node_of.And args) = Unit {0}
 NumberBelow n (node_of.Or args) = Unit {0}

@@ -1,6 +1,6 @@
 -- The texts of replies.
 use Rattle.std.specs.Prelude.{ℕ, List, [], ◌∷◌, ◌++◌, Option, Some, None, codes, string_bytes, if◌then◌else◌}
-use Rattle.y_tree.specs.declared.Value.{Value}
+use Rattle.y_tree.specs.Values.{Value}
 use Rattle.y_tree.specs.Tree.{Tree}
 use Rattle.y_tree.specs.Meaning.{Assignment, meaning}
 use Rattle.y_tree.specs.Texts.{value_text}

@@ -1,7 +1,7 @@
 -- What a session knows between two commands, and what an expression stands for in it.
-use Rattle.std.specs.Prelude.{ℕ, suc, Bool, List, [], ◌∷◌, Option, Some, None, Result, Ok, Err, ◌==◌, nat_lt, codes, if◌then◌else◌}
+use Rattle.std.specs.Prelude.{ℕ, Bool, List, [], ◌∷◌, Option, Some, None, Result, Ok, Err, ◌==◌, nat_lt, codes, if◌then◌else◌}
 use Rattle.std.specs.Str.{bytes_eq}
-use Rattle.y_tree.specs.Tree.{Op, truth, falsity, constant, negation, conjunction, disjunction, Tree, Trees, node}
+use Rattle.y_tree.specs.Tree.{Op, truth, falsity, constant, negation, conjunction, disjunction, Tree, Trees, node, count}
 use Rattle.y_tree.specs.Tree as tree
 use Rattle.y_tree.specs.Meaning.{Assignment}
 use Rattle.yices_grammar.specs.declared.Place.{Place}
@@ -44,11 +44,6 @@ op_named w = if bytes_eq w (codes "not") then negation else (if bytes_eq w (code
 -- whether the operator takes so many arguments: `not` takes one, the others one or more
 abbrev pub takes : List ℕ → ℕ → Bool
 takes op n = if bytes_eq op (codes "not") then n == 1 else nat_lt 0 n
-
--- how many trees there are
-abbrev pub count : Trees → ℕ
-count tree.none = 0
-count (tree.more t ts) = suc (count ts)
 
 -- the tree, or that the name is unknown
 abbrev pub known : Place → List ℕ → Option Tree → Result Tree Cause

@@ -1,7 +1,7 @@
 -- What a command does to a session, what it replies, and when it is refused.
 use Rattle.std.specs.Prelude.{◌≡◌, ℕ, ◌<◌, ◌-◌, true, false, List, [], ◌∷◌, ◌++◌, Option, Some, None, Result, Ok, Err, ◌⊎◌, codes, drop, length, is_some, nat_le, ◌==◌, if◌then◌else◌}
 use Rattle.std.specs.List.{AllByRecursion}
-use Rattle.y_tree.specs.declared.Sort.TheVariants as sort
+use Rattle.y_tree.specs.Sorts.{boolean}
 use Rattle.y_tree.specs.Tree.{constant, Tree, node}
 use Rattle.y_tree.specs.Tree as tree
 use Rattle.y_tree.specs.Meaning.{Assignment, Satisfies}
@@ -23,7 +23,7 @@ level_of s = length s.lists - 1
 
 -- the tree of the constant that is declared next: it has the number of names before it
 abbrev pub next_constant : State → Tree
-next_constant s = node (constant (length s.names) sort.Bool) tree.none
+next_constant s = node (constant (length s.names) boolean) tree.none
 
 -- the session with a name more
 abbrev pub with_name : State → Named → State
@@ -63,7 +63,8 @@ pub record Asserts (old : State) (e : Expr) (reply : List ℕ) (new : State) : T
 pub record FindsModel (old : State) (reply : List ℕ) (new : State) : Type 0 where
   pub values : Assignment
   pub holds : Holds old.lists values
-  pub declared : AllByRecursion (λ e. e.0 < length old.names) values
+  pub declared : AllByRecursion (λ e. e.0 < length old.names) values.constants
+  pub no_variables : values.variables ≡ []
   pub says : reply ≡ codes "sat\n"
   pub after : new ≡ record old { model = Some values }
 

@@ -1,7 +1,10 @@
 //! Checks, and the model that is kept.
 
 ghost use Rattle.std.specs.Prelude.{◌≡◌, ◌<◌, ◌++◌, length, string_bytes, IfOk, IfErr, OnOk, OnErr};
-ghost use Rattle.theory_combine.specs.Nodes.{tree_at};
+ghost use Rattle.std.specs.Option.{option_map};
+ghost use Rattle.y_tree.specs.Values.{truth};
+ghost use Rattle.y_tree.specs.Texts.{value_text};
+ghost use Rattle.theory_combine.specs.Nodes.{tree_at, booleans};
 ghost use Rattle.yices_text.specs.Plain.{plain};
 ghost use Rattle.yices_session.specs.Bindings.{name_list};
 ghost use Rattle.yices_session.specs.Building.{AreNamed, IsUnbuilt};
@@ -17,7 +20,6 @@ use crate::refusal::{Reply, Stop};
 use crate::session::Session;
 use std::alloc::Global;
 use theory_combine::{ConstValues, Problem, Verdict, constant_values, decide, values_under};
-use y_tree::Value;
 use yices_text::Expr;
 
 impl Session {
@@ -71,7 +73,7 @@ fn show_names(
     model: &ConstValues,
 ) -> Result<Reply, Stop>
     requires { AreNamed (name_list names.now.entries) problem.now }
-    ensures lines { IfOk result (λ r. reply_text r ≡ name_lines model.now (names_in problem.now (name_list names.now.entries))) }
+    ensures lines { IfOk result (λ r. reply_text r ≡ name_lines (booleans model.now) (names_in problem.now (name_list names.now.entries))) }
     ensures cause { IfErr result (λ e. e ≡ NoMemory) }
 {
     let values = values_under(alloc, problem, model)?;
@@ -89,15 +91,23 @@ fn show_names(
     Ok(Reply::Text(text))
 }
 
+// The text of a truth value.
+#[tactic(auto, unfolding(y_tree::specs::Texts::value_text))]
+fn word_of(value: bool) -> &'static str
+    ensures { result.now ≡ value_text (truth value) }
+{
+    if value { "true" } else { "false" }
+}
+
 // Adds the line of a name and its value.
-fn write_line(text: &mut String, name: &str, value: Value) -> Result<(), Stop>
-    ensures ok { OnOk result (string_bytes text.new ≡ string_bytes text.old ++ value_line name.now value) }
+fn write_line(text: &mut String, name: &str, value: bool) -> Result<(), Stop>
+    ensures ok { OnOk result (string_bytes text.new ≡ string_bytes text.old ++ value_line name.now (truth value)) }
     ensures cause { IfErr result (λ e. e ≡ NoMemory) }
 {
     text.push_str("(= ")?;
     text.push_str(name)?;
     text.push_str(" ")?;
-    text.push_str(value.text())?;
+    text.push_str(word_of(value))?;
     text.push_str(")\n")?;
     Ok(())
 }
@@ -110,14 +120,14 @@ fn show_node(
     node: usize,
 ) -> Result<Reply, Stop>
     requires { node < length problem.now }
-    ensures line { IfOk result (λ r. reply_text r ≡ value_reply kept.now (tree_at problem.now node)) }
+    ensures line { IfOk result (λ r. reply_text r ≡ value_reply (option_map booleans kept.now) (tree_at problem.now node)) }
     ensures cause { IfErr result (λ e. e ≡ NoMemory) }
 {
     match kept {
         Some(model) => {
             let values = values_under(alloc, problem, model)?;
             let mut text = String::new(alloc);
-            text.push_str(values[node].text())?;
+            text.push_str(word_of(values[node]))?;
             text.push_str("\n")?;
             Ok(Reply::Text(text))
         }

@@ -13,7 +13,6 @@ use crate::refusal::{Reply, Stop};
 use crate::session::Session;
 use theory_combine::Node;
 use y_io::Text;
-use y_tree::Sort;
 use yices_text::{Expr, Place};
 
 impl Session {
@@ -30,7 +29,6 @@ impl Session {
         make_room(&mut self.names)?;
         let constant = Node::Const {
             number: self.names.len() as u64,
-            of: Sort::Bool,
         };
         let node = add(&mut self.problem, constant)?;
         let binding = Binding {

@@ -1,4 +1,5 @@
 use Rattle.std.proofs.Common.{◌≡◌, ◌++◌, drop, string_bytes}
+use Rattle.theory_combine.specs.Nodes.{booleans}
 use Rattle.yices_session.specs.Bindings.{name_list}
 use Rattle.yices_session.specs.Held.{names_in}
 use Rattle.yices_session.specs.Replies.{name_lines}
@@ -7,4 +8,4 @@ use Rattle.yices_session.proofs.session.models.show_names.Given as goal
 -- the lines so far, and those of the names that are left
 abbrev pub invariant-loop-i : goal.invariant-loop-i
 invariant-loop-i l =
-    name_lines l.model (names_in l.problem (name_list l.names.entries)) ≡ string_bytes l.text ++ name_lines l.model (names_in l.problem (name_list (drop l.i l.names.entries)))
+    name_lines (booleans l.model) (names_in l.problem (name_list l.names.entries)) ≡ string_bytes l.text ++ name_lines (booleans l.model) (names_in l.problem (name_list (drop l.i l.names.entries)))
