@@ -5,6 +5,7 @@ ghost use Rattle.std.specs.Bool.{OnTrue, OnFalse};
 ghost use Rattle.clause_logic.specs.declared.Lit.{Lit};
 ghost use Rattle.clause_logic.specs.Clauses.{In};
 ghost use Rattle.clause_search.specs.Answers.{Justified};
+ghost use Rattle.clause_search.specs.Content.{AllKnown};
 
 use crate::loading::{Loaded, load};
 use crate::solving::run;
@@ -101,6 +102,13 @@ impl Search {
         ensures no { OnFalse result (((l : Lit) → In l lits.now → l.var < self.now.content.vars) → ⊥) }
     {
         all_below(lits, self.phases.len())
+    }
+
+    /// Does nothing: it says that the clauses name variables that there are.
+    pub fn clauses_are_known(&self)
+        ensures { AllKnown self.now.content.vars self.now.content.clauses }
+    {
+        let _clauses = &self.clauses;
     }
 
     /// Adds a clause, at the newest level. It takes time in the number of its literals.
