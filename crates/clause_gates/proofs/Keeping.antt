@@ -19,7 +19,7 @@ get_last [] y (suc i) x h = absurd (cc h)
 get_last (z ∷ xs) y zero x h = inl h
 get_last (z ∷ xs) y (suc i) x h = ⊎_elim inl (λ e. inr (ap suc e.0, e.1)) (get_last xs y i x h)
 
-get_end : {X : Type 0} (xs : List X) (y : X) → slice_get (xs ++ y ∷ []) (length xs) ≡ Some y
+pub get_end : {X : Type 0} (xs : List X) (y : X) → slice_get (xs ++ y ∷ []) (length xs) ≡ Some y
 get_end [] y = refl
 get_end (z ∷ xs) y = get_end xs y
 

@@ -9,7 +9,7 @@ ghost use Rattle.std.specs.Bool.{OnTrue, OnFalse};
 ghost use Rattle.clause_logic.specs.declared.Lit.{Lit};
 ghost use Rattle.clause_logic.specs.Clauses.{In, Listed};
 ghost use Rattle.clause_search.specs.Answers.{Justified};
-ghost use Rattle.clause_gates.specs.Built.{IsCircuit, with_var, with_clause};
+ghost use Rattle.clause_gates.specs.Built.{IsCircuit, HasGate, with_var, with_clause};
 ghost use Rattle.clause_gates.specs.Circuits.{Grows, Computes};
 ghost use Rattle.clause_gates.specs.Gates.{IsOlder, gate_clauses, gate_value};
 
@@ -145,6 +145,8 @@ impl Circuit {
         ensures grows { Grows self.old self.new 1 }
         ensures clauses { IfOk result (λ g. (c : List Lit) → Listed (gate_clauses g gate) c → Listed self.new.content.clauses c) }
         ensures ok { IfOk result (λ g. Computes self.new.content g (λ s. gate_value s gate)) }
+        ensures told { IfOk result (λ g. HasGate self.new g.var gate) }
+        ensures whole { OnOk result (self.new.whole ≡ self.old.whole) }
     {
         self.gates.reserve(1)?;
         let var = self.search.new_var()?;

@@ -1,11 +1,11 @@
-use Rattle.std.proofs.Common.{ℕ, false, length, sym, subst}
+use Rattle.std.proofs.Common.{◌≡◌, ℕ, Some, false, length, sym, subst}
 use Rattle.clause_logic.specs.Clauses.{Listed}
 use Rattle.clause_gates.specs.Gates.{gate_clauses, gate_value, IsOlder}
 use Rattle.clause_gates.specs.Built.{Built, IsCircuit, of_var}
 use Rattle.clause_gates.specs.Circuits.{Grows, Computes}
 use Rattle.clause_gates.specs.Layout.{built_of}
 use Rattle.clause_gates.proofs.Growth.{grows_same, gate_grows, gate_computes, gate_listed}
-use Rattle.clause_gates.proofs.Keeping.{gate_keeps, defined, whole_rows, all_taken}
+use Rattle.clause_gates.proofs.Keeping.{get_end, gate_keeps, defined, whole_rows, all_taken}
 use Rattle.clause_gates.proofs.Tables.{gate_is}
 use Rattle.clause_gates.proofs.circuit.Circuit.define.Goals as goal
 
@@ -54,3 +54,8 @@ returns-clause-ok c =
     subst (λ (v : ℕ). Computes c.add_gate.new.search.content (of_var v) (λ s. gate_value s c.args.gate)) (sym c.in_ok-var.ensures.number)
     (gate_computes (built_of c.self.inside) (record { content = c.add_gate.new.search.content; gates = c.push.new.self.items; given = c.self.inside.given.value; whole = c.self.inside.whole }) c.args.gate c.self.invariant.known (gate_is c.self.inside.search.content.vars c.args.gate older) (length (gate_clauses (of_var c.in_ok-var.var) c.args.gate)) c.self.inside.whole e
     (all_taken c.in_ok-var.var c.self.inside.search.content.vars c.args.gate c.in_ok-var.ensures.number))
+
+pub returns-clause-told : goal.returns-clause-told
+returns-clause-told c =
+    let count : length c.self.inside.gates.items ≡ c.self.inside.search.content.vars = c.self.invariant.count in
+    rw (c.in_ok-push.ensures.items, c.reserve.ensures.items, c.in_ok-var.ensures.number, ← count) (get_end c.self.inside.gates.items (Some c.args.gate))
