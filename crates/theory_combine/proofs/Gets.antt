@@ -1,7 +1,8 @@
 -- What stands in a list after a push, and at a place.
-use Rattle.std.proofs.Common.{◌≡◌, ◌∙◌, ◌+◌, ◌<◌, ◌++◌, ℕ, zero, suc, List, [], ◌∷◌, Some, length, map, take, drop, All, refl, ap, subst, inl, inr, ◌⊎◌, ⊎_elim, arith}
+use Rattle.std.proofs.Common.{◌≡◌, ◌∙◌, ◌+◌, ◌<◌, ◌≤◌, ◌++◌, ℕ, zero, suc, List, [], ◌∷◌, Some, length, map, take, drop, All, refl, sym, ap, subst, add-one, inl, inr, ◌⊎◌, ⊎_elim, arith}
 use Rattle.std.specs.Prelude.{slice_get}
 use Rattle.std.proofs.lemmas.Option.{same_Some, slice_get_within, get_or_from_slice_get}
+use Rattle.std.proofs.lemmas.List.{take_all}
 
 module _ {X : Type 0} where
   pub push_here : (w : List X) (y : X) → slice_get (w ++ y ∷ []) (length w) ≡ Some y
@@ -46,3 +47,25 @@ module _ {X : Type 0} where
   pub map_same : {Y : Type 0} (f g : X → Y) (xs : List X) → ((j : ℕ) (x : X) → slice_get xs j ≡ Some x → f x ≡ g x) → map f xs ≡ map g xs
   map_same f g [] h = refl
   map_same f g (x ∷ xs) h = ap (λ y. y ∷ map f xs) (h zero x refl) ∙ ap (λ ys. g x ∷ ys) (map_same f g xs (λ j. h (suc j)))
+
+  -- a list that is mapped element by element
+  pub map_more : {Y : Type 0} (f : X → Y) (xs : List X) (i : ℕ) (x : X) (v w : List Y) → slice_get xs i ≡ Some x → v ≡ map f (take i xs) → w ≡ v ++ f x ∷ [] → w ≡ map f (take (i + 1) xs)
+  map_more f xs i x v w h known grown =
+      grown ∙ ap (λ ys. ys ++ f x ∷ []) known ∙ rw add-one (taken f xs i x h)
+    where
+      taken : {Y : Type 0} (f : X → Y) (xs : List X) (i : ℕ) (x : X) → slice_get xs i ≡ Some x → map f (take i xs) ++ f x ∷ [] ≡ map f (take (suc i) xs)
+      taken f [] i x h = absurd (cc h)
+      taken f (y ∷ xs) zero x h = ap (λ z. f z ∷ []) (sym (same_Some y x h))
+      taken f (y ∷ xs) (suc i) x h = ap (λ zs. f y ∷ zs) (taken f xs i x h)
+
+  pub map_done : {Y : Type 0} (f : X → Y) (xs : List X) (i : ℕ) (v : List Y) → length xs ≤ i → v ≡ map f (take i xs) → v ≡ map f xs
+  map_done f xs i v h known = known ∙ ap (map f) (take_all i xs h)
+
+  -- what stands in one list or the other
+  pub get_cases : (xs ys : List X) (i : ℕ) (x : X) → slice_get (xs ++ ys) i ≡ Some x → (slice_get xs i ≡ Some x) ⊎ ((j : ℕ) × (slice_get ys j ≡ Some x))
+  get_cases [] ys i x h = inr (i, h)
+  get_cases (z ∷ xs) ys zero x h = inl h
+  get_cases (z ∷ xs) ys (suc i) x h = get_cases xs ys i x h
+
+  pub front_get : (xs ys : List X) (i : ℕ) (x : X) → slice_get xs i ≡ Some x → slice_get (xs ++ ys) i ≡ Some x
+  front_get xs ys i x h = get_append xs ys i (slice_get_within xs i x h) ∙ h

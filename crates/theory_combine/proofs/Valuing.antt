@@ -1,17 +1,18 @@
 -- The values of nodes, one after another.
-use Rattle.std.proofs.Common.{◌≡◌, ◌∙◌, ◌+◌, ◌<◌, ◌++◌, ◌&&◌, ◌||◌, ℕ, zero, suc, Bool, true, false, List, [], ◌∷◌, Some, length, map, drop, get_or, All, refl, sym, ap, subst, ⊎_elim, arith}
+use Rattle.std.proofs.Common.{◌≡◌, ◌∙◌, ◌+◌, ◌<◌, ◌≤◌, ◌++◌, ◌&&◌, ◌||◌, ℕ, zero, suc, Bool, true, false, not, if◌then◌else◌, List, [], ◌∷◌, Some, length, map, take, drop, get_or, All, refl, sym, ap, subst, ⊎_elim, arith}
 use Rattle.std.specs.Prelude.{slice_get}
 use Rattle.std.specs.List.{list_all, list_any}
-use Rattle.std.proofs.lemmas.List.{at_drop_more}
+use Rattle.std.proofs.lemmas.List.{at_drop_more, map-append}
 use Rattle.std.proofs.lemmas.Option.{slice_get_read, slice_get-get_or}
 use Rattle.y_tree.specs.Sorts.{boolean}
-use Rattle.y_tree.specs.Values.{truth}
+use Rattle.y_tree.specs.Values.{Value, truth, same_truth}
 use Rattle.y_tree.specs.Tree.{trees}
-use Rattle.y_tree.specs.Meaning.{Assignment, truth_of, apply, meaning, meanings}
+use Rattle.y_tree.specs.Meaning.{Assignment, truth_of, is_odd, are_distinct, apply, meaning, meanings}
 use Rattle.theory_combine.specs.declared.Node.{Node}
 use Rattle.theory_combine.specs.Nodes.{op_of, arguments_of, IsFormed, tree_at}
 use Rattle.theory_combine.specs.Values.{AreValues, values_at}
 use Rattle.theory_combine.proofs.Gets.{push_cases, length_front}
+use Rattle.theory_combine.proofs.Combining.{take_next}
 use Rattle.theory_combine.proofs.TreeLaws.{meaning_at}
 
 -- whether all, or some, values at places are true, from place i on
@@ -69,3 +70,47 @@ module _ (nodes read : List Node) (s : Assignment) (values seen : List Bool) (k 
 
 pub no_values : (nodes : List Node) (s : Assignment) → AreValues nodes s []
 no_values nodes s = record { right = λ k v e. absurd (cc e) }
+
+odd_push : (bs : List Bool) (b : Bool) → is_odd (bs ++ b ∷ []) ≡ (if b then not (is_odd bs) else is_odd bs)
+odd_push [] true = refl
+odd_push [] false = refl
+odd_push (true ∷ bs) true = ap not (odd_push bs true)
+odd_push (true ∷ bs) false = ap not (odd_push bs false)
+odd_push (false ∷ bs) b = odd_push bs b
+
+-- an odd number of values at the first places is true, and one place more
+pub odd_more : (values : List Bool) (places : List ℕ) (i : ℕ) → i < length places → (odd : Bool) → odd ≡ is_odd (map truth_of (values_at values (take i places)))
+    → (if get_or values (get_or places i 0) false then not odd else odd) ≡ is_odd (map truth_of (values_at values (take (i + 1) places)))
+odd_more values places i within odd known =
+    let here : Bool = get_or values (get_or places i 0) false in
+    ap (λ o. if here then not o else o) known
+    ∙ sym (odd_push (map truth_of (values_at values (take i places))) here)
+    ∙ ap is_odd (sym (ap (λ ks. map truth_of (values_at values ks)) (take_next places i (get_or places i 0) (slice_get-get_or places i 0 within))
+    ∙ ap (map truth_of) (map-append (λ k. truth (get_or values k false)) (take i places) (get_or places i 0 ∷ []))
+    ∙ map-append truth_of (values_at values (take i places)) (truth here ∷ [])))
+
+and_false : (b : Bool) → (b && false) ≡ false
+and_false true = refl
+and_false false = refl
+
+-- of three truth values two are one
+pub three_alike : (a b c : Bool) (vs : List Value) → false ≡ are_distinct boolean (truth a ∷ truth b ∷ truth c ∷ vs)
+three_alike true true c vs = refl
+three_alike true false true vs = refl
+three_alike true false false vs = sym (and_false _)
+three_alike false true true vs = sym (and_false _)
+three_alike false true false vs = refl
+three_alike false false c vs = refl
+
+-- two truth values differ
+pub two_differ : (a b : Bool) → not (same_truth a b) ≡ are_distinct boolean (truth a ∷ truth b ∷ [])
+two_differ true true = refl
+two_differ true false = refl
+two_differ false true = refl
+two_differ false false = refl
+
+pub many_alike : (values : List Bool) (places : List ℕ) → 3 ≤ length places → false ≡ are_distinct boolean (values_at values places)
+many_alike values [] h = absurd (omega (arith, h))
+many_alike values (i ∷ []) h = absurd (omega (arith, h))
+many_alike values (i ∷ j ∷ []) h = absurd (omega (arith, h))
+many_alike values (i ∷ j ∷ k ∷ ks) h = three_alike (get_or values i false) (get_or values j false) (get_or values k false) (values_at values ks)

@@ -6,7 +6,8 @@ use Rattle.theory_combine.specs.declared.Node.{Node}
 use Rattle.theory_combine.specs.declared.Node.TheVariants as node_of
 use Rattle.theory_combine.specs.declared.NodeLit.{NodeLit}
 use Rattle.theory_combine.specs.declared.Verdict.{Verdict}
-use Rattle.theory_combine.specs.declared.Verdict.TheVariants.{Sat, Unsat}
+use Rattle.theory_combine.specs.declared.Verdict.TheVariants.{Sat, Unsat, Unknown}
+use Rattle.theory_combine.specs.declared.Learned.{Learned}
 use Rattle.theory_combine.specs.Nodes.{tree_at, assignment_of, MakesAll, MakesAt}
 
 -- a value for each constant node, and under them each literal is true
@@ -29,12 +30,27 @@ pub record IsConflict (nodes : List Node) (lits : List NodeLit) (places : List �
   pub rising : (i j p q : ℕ) → i < j → slice_get places i ≡ Some p → slice_get places j ≡ Some q → p < q
   pub never : (s : Assignment) → MakesAt nodes s lits places → ⊥
 
+-- places of assumed literals that no assignment makes true together with all asserted ones
+pub record IsConflictUnder (nodes : List Node) (asserted assumed : List NodeLit) (places : List ℕ) : Type 0 where
+  pub within : All (λ p. p < length assumed) places
+  -- each place is there once
+  pub rising : (i j p q : ℕ) → i < j → slice_get places i ≡ Some p → slice_get places j ≡ Some q → p < q
+  pub never : (s : Assignment) → MakesAll nodes s asserted → MakesAt nodes s assumed places → ⊥
+
 -- what `Sat` says
 abbrev pub IfSat : Verdict → (List (ℕ × Bool) → Type 0) → Type 0
 IfSat (Sat values) P = P values
 IfSat (Unsat places) P = Unit {0}
+IfSat (Unknown learned) P = Unit {0}
 
 -- what `Unsat` says
 abbrev pub IfUnsat : Verdict → (List ℕ → Type 0) → Type 0
 IfUnsat (Sat values) P = Unit {0}
 IfUnsat (Unsat places) P = P places
+IfUnsat (Unknown learned) P = Unit {0}
+
+-- what `Unknown` says
+abbrev pub IfUnknown : Verdict → (Learned → Type 0) → Type 0
+IfUnknown (Sat values) P = Unit {0}
+IfUnknown (Unsat places) P = Unit {0}
+IfUnknown (Unknown learned) P = P learned

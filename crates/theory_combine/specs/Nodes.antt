@@ -2,7 +2,7 @@
 use Rattle.std.specs.Prelude.{◌≡◌, ℕ, ◌<◌, Bool, List, [], ◌∷◌, ◌++◌, Option, Some, None, length, map, slice_get, take, unwrap_or, All, Contains}
 use Rattle.y_tree.specs.Sorts.{boolean}
 use Rattle.y_tree.specs.Values as value
-use Rattle.y_tree.specs.Tree.{Op, truth, falsity, constant, negation, conjunction, disjunction, Tree, Trees, node, none, more, trees}
+use Rattle.y_tree.specs.Tree.{Op, truth, falsity, constant, negation, conjunction, disjunction, parity, choice, equality, distinctness, Tree, Trees, node, none, more, trees}
 use Rattle.y_tree.specs.Meaning.{Assignment, truth_of, meaning}
 use Rattle.theory_combine.specs.declared.Node.{Node}
 use Rattle.theory_combine.specs.declared.Node.TheVariants as node_of
@@ -16,6 +16,10 @@ op_of (node_of.Const number) = constant number boolean
 op_of (node_of.Not a) = negation
 op_of (node_of.And args) = conjunction
 op_of (node_of.Or args) = disjunction
+op_of (node_of.Xor args) = parity
+op_of (node_of.Ite c a b) = choice
+op_of (node_of.Eq a b) = equality
+op_of (node_of.Distinct args) = distinctness
 
 -- the numbers of a node's arguments, in order
 abbrev pub arguments_of : Node → List ℕ
@@ -25,11 +29,17 @@ arguments_of (node_of.Const number) = []
 arguments_of (node_of.Not a) = a ∷ []
 arguments_of (node_of.And args) = args
 arguments_of (node_of.Or args) = args
+arguments_of (node_of.Xor args) = args
+arguments_of (node_of.Ite c a b) = c ∷ a ∷ b ∷ []
+arguments_of (node_of.Eq a b) = a ∷ b ∷ []
+arguments_of (node_of.Distinct args) = args
 
 -- the number of arguments is one that the operator takes
 abbrev pub HasArity : Node → Type 0
 HasArity (node_of.And args) = 0 < length args
 HasArity (node_of.Or args) = 0 < length args
+HasArity (node_of.Xor args) = 0 < length args
+HasArity (node_of.Distinct args) = 0 < length args
 HasArity _ = Unit {0}
 
 -- the node may come next: its arguments are earlier nodes, as many as its operator takes
@@ -92,6 +102,10 @@ number_of (Some (node_of.Const number)) = Some number
 number_of (Some (node_of.Not a)) = None
 number_of (Some (node_of.And args)) = None
 number_of (Some (node_of.Or args)) = None
+number_of (Some (node_of.Xor args)) = None
+number_of (Some (node_of.Ite c a b)) = None
+number_of (Some (node_of.Eq a b)) = None
+number_of (Some (node_of.Distinct args)) = None
 
 -- the constant's number at a node
 abbrev pub number_at : List Node → ℕ → Option ℕ

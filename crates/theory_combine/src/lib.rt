@@ -13,10 +13,18 @@ ghost use Rattle.theory_combine.specs.Nodes.{Fits, IsFormed, OlderTreesStay, New
 use std::alloc::{AllocError, Global};
 use std::marker::Model;
 
-mod search;
+mod deciding;
+mod encoding;
+mod gates;
+mod learning;
+mod lists;
+mod theories;
 mod values;
 
-pub use search::decide;
+pub use clause_search::Turns;
+pub use deciding::{decide, decide_assuming};
+pub use encoding::{Encoding, Origin};
+pub use lists::{NodeClause, NodeClauses};
 pub use values::{ConstValues, constant_values, values_under};
 
 /// A list of numbers: of nodes, or of places in another list.
@@ -156,6 +164,14 @@ pub enum Node {
     And(Places),
     /// The disjunction of one or more nodes.
     Or(Places),
+    /// Whether an odd number of one or more nodes is true.
+    Xor(Places),
+    /// The second node where the first is true, and the third elsewhere.
+    Ite(usize, usize, usize),
+    /// Whether two nodes have one value.
+    Eq(usize, usize),
+    /// Whether no two of one or more nodes have one value.
+    Distinct(Places),
 }
 
 /// Numbered nodes, from 0 on, each over earlier ones.
@@ -221,6 +237,10 @@ impl Problem {
             Node::Not(argument) => *argument < count,
             Node::And(arguments) => are_arguments(arguments.as_slice(), count),
             Node::Or(arguments) => are_arguments(arguments.as_slice(), count),
+            Node::Xor(arguments) => are_arguments(arguments.as_slice(), count),
+            Node::Ite(c, a, b) => *c < count && *a < count && *b < count,
+            Node::Eq(a, b) => *a < count && *b < count,
+            Node::Distinct(arguments) => are_arguments(arguments.as_slice(), count),
         }
     }
 
@@ -254,13 +274,26 @@ pub fn trees_of_nodes()
     ensures new { NewTreeOverArguments }
 {}
 
-/// What [`decide`] answers.
-#[derive(Debug, Drop)]
+/// What was learned before a limit of turns was passed: clauses, each of which says more than unit
+/// propagation does from the problem and the earlier clauses.
+#[derive(Drop)]
+pub struct Learned {
+    /// The problem's nodes, and then those that were added: parities of the first arguments of a
+    /// parity of the problem.
+    pub nodes: Problem,
+    /// The clauses, the oldest first.
+    pub clauses: NodeClauses,
+}
+
+/// What [`decide`] and [`decide_assuming`] answer.
+#[derive(Drop)]
 pub enum Verdict {
     /// Values of the constant nodes under which every literal is true, by rising number of node.
     Sat(NodeValues),
     /// Places of literals, from 0 on, that no assignment makes true together.
     Unsat(Places),
+    /// Clauses that were learned, one more than the limit allows.
+    Unknown(Learned),
 }
 
 #[cfg(test)]

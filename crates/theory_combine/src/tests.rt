@@ -1,4 +1,6 @@
-//! Answers on problems whose truth tables are known.
+//! Answers on problems whose truth tables are known, and on random ones beside a computed table.
+
+ghost use Rattle.std.specs.Prelude.{◌<◌};
 
 use super::*;
 use std::process::Abort;
@@ -85,9 +87,10 @@ fn verdict(
     alloc: Global,
     problem: &Problem,
     lits: &[NodeLit],
+    turns: Turns,
 ) -> Result<Verdict, AllocError> {
     assert!(rt; lits.iter().all(|l| l.node < problem.len()));
-    decide(alloc, problem, lits)
+    decide(alloc, problem, lits, turns)
 }
 
 fn is_unsat(
@@ -95,10 +98,12 @@ fn is_unsat(
     alloc: Global,
     problem: &Problem,
     lits: &[NodeLit],
+    turns: Turns,
 ) -> Result<bool, AllocError> {
-    match verdict(rt, alloc, problem, lits)? {
+    match verdict(rt, alloc, problem, lits, turns)? {
         Verdict::Sat(_) => Ok(false),
-        Verdict::Unsat(places) => Ok(!places.is_empty()),
+        Verdict::Unsat(places) => Ok(places.len() == lits.len()),
+        Verdict::Unknown(_) => Ok(false),
     }
 }
 
@@ -109,9 +114,10 @@ fn has_values(
     lits: &[NodeLit],
     values: &[(usize, bool)],
 ) -> Result<bool, AllocError> {
-    match verdict(rt, alloc, problem, lits)? {
+    match verdict(rt, alloc, problem, lits, Turns::Whole)? {
         Verdict::Sat(found) => Ok(found.as_slice() == values),
         Verdict::Unsat(_) => Ok(false),
+        Verdict::Unknown(_) => Ok(false),
     }
 }
 
@@ -128,6 +134,7 @@ fn decide_answers_by_truth_tables(rt: HostRuntime) -> Result<(), Fail> {
     for row in sat {
         assert!(rt; has_values(&rt, alloc, &problem, row, &only_q)?);
     }
+    // what unit propagation decides takes no turn
     let unsat: [&[NodeLit]; 5] = [
         &[P, NOT_P],
         &[P, NOT_SECOND_P],
@@ -136,7 +143,7 @@ fn decide_answers_by_truth_tables(rt: HostRuntime) -> Result<(), Fail> {
         &[P_OR_Q, NOT_P, NOT_Q],
     ];
     for row in unsat {
-        assert!(rt; is_unsat(&rt, alloc, &problem, row)?);
+        assert!(rt; is_unsat(&rt, alloc, &problem, row, Turns::Counted(0))?);
     }
     Ok(())
 }
@@ -146,20 +153,6 @@ fn no_literals_are_satisfied_by_no_values(rt: HostRuntime) -> Result<(), Fail> {
     let alloc = rt.alloc();
     let none: [(usize, bool); 0] = [];
     assert!(rt; has_values(&rt, alloc, &Problem::new(alloc), &[], &none)?);
-    Ok(())
-}
-
-#[test]
-fn lists_keep_what_is_pushed(rt: HostRuntime) -> Result<(), Fail> {
-    let alloc = rt.alloc();
-    let places = two(alloc, 4, 2)?;
-    assert_eq!(rt; places.as_slice(), [4, 2].as_slice());
-    assert_eq!(rt; places.len(), 2);
-    let mut values = NodeValues::new(alloc);
-    assert!(rt; values.is_empty());
-    values.push((3, true))?;
-    assert_eq!(rt; values.as_slice(), [(3, true)].as_slice());
-    assert_eq!(rt; values.len(), 1);
     Ok(())
 }
 
@@ -174,5 +167,279 @@ fn only_earlier_arguments_fit(rt: HostRuntime) -> Result<(), Fail> {
     assert!(rt; !problem.fits(&Node::Or(two(alloc, 0, 1)?)));
     assert!(rt; problem.node(0).is_some());
     assert!(rt; problem.node(1).is_none());
+    Ok(())
+}
+
+fn is_true(node: usize) -> NodeLit {
+    NodeLit {
+        node,
+        positive: true,
+    }
+}
+
+fn is_false(node: usize) -> NodeLit {
+    NodeLit {
+        node,
+        positive: false,
+    }
+}
+
+// Three pigeons in two holes: each in one, no two in one.
+fn pigeons(rt: &impl Abort, alloc: Global) -> Result<(Problem, Vec<NodeLit>), AllocError> {
+    let mut problem = Problem::new(alloc);
+    for number in 0..6u64 {
+        added(rt, &mut problem, Node::Const { number })?;
+    }
+    let mut lits: Vec<NodeLit> = Vec::new(alloc);
+    for pigeon in 0..3usize {
+        let node = Node::Or(two(alloc, 2 * pigeon, 2 * pigeon + 1)?);
+        lits.push(is_true(added(rt, &mut problem, node)?))?;
+    }
+    for (first, second) in [(0usize, 2usize), (0, 4), (2, 4), (1, 3), (1, 5), (3, 5)] {
+        let node = Node::And(two(alloc, first, second)?);
+        lits.push(is_false(added(rt, &mut problem, node)?))?;
+    }
+    Ok((problem, lits))
+}
+
+#[test]
+fn turns_are_counted(rt: HostRuntime) -> Result<(), Fail> {
+    let alloc = rt.alloc();
+    let (problem, lits) = pigeons(&rt, alloc)?;
+    for limit in [Turns::Counted(100), Turns::Whole] {
+        assert!(rt; is_unsat(&rt, alloc, &problem, lits.as_slice(), limit)?);
+    }
+    match verdict(&rt, alloc, &problem, lits.as_slice(), Turns::Counted(0))? {
+        Verdict::Unknown(learned) => {
+            assert_eq!(rt; learned.clauses.len(), 1);
+            assert_eq!(rt; learned.nodes.len(), problem.len());
+        }
+        _ => assert!(rt; false),
+    }
+    Ok(())
+}
+
+// The places that a conflict names.
+fn core_of(
+    rt: &impl Abort,
+    alloc: Global,
+    problem: &Problem,
+    asserted: &[NodeLit],
+    assumed: &[NodeLit],
+) -> Result<Places, AllocError> {
+    assert!(rt; asserted.iter().all(|l| l.node < problem.len()));
+    assert!(rt; assumed.iter().all(|l| l.node < problem.len()));
+    match decide_assuming(alloc, problem, asserted, assumed, Turns::Whole)? {
+        Verdict::Unsat(places) => Ok(places),
+        _ => Ok(Places::new(alloc)),
+    }
+}
+
+#[test]
+fn a_core_names_what_the_search_met(rt: HostRuntime) -> Result<(), Fail> {
+    let alloc = rt.alloc();
+    let problem = two_constants(&rt, alloc)?;
+    let assumed = [TRUE, NOT_P, NOT_FALSE, NOT_Q];
+    let places = core_of(&rt, alloc, &problem, &[P_OR_Q], &assumed)?;
+    assert_eq!(rt; places.as_slice(), [1, 3].as_slice());
+    Ok(())
+}
+
+// Numbers that look random: those of a linear congruence, modulo 2^64.
+#[derive(Drop)]
+struct Random {
+    state: u64,
+}
+
+impl Random {
+    // A number below a small one.
+    fn below(&mut self, count: usize) -> usize
+        requires { 0 < count }
+        ensures { result < count }
+    {
+        self.state = self
+            .state
+            .wrapping_mul(6364136223846793005)
+            .wrapping_add(1442695040888963407);
+        ((self.state / 4294967296) % (count as u64)) as usize
+    }
+}
+
+fn some_places(
+    alloc: Global,
+    random: &mut Random,
+    most: usize,
+    count: usize,
+) -> Result<Places, AllocError>
+    requires most { 0 < most }
+    requires count { 0 < count }
+{
+    let mut places = Places::new(alloc);
+    for _i in 0..1 + random.below(most) {
+        places.push(random.below(count))?;
+    }
+    Ok(places)
+}
+
+// A node over the ones before it.
+fn random_node(alloc: Global, random: &mut Random, count: usize) -> Result<Node, AllocError>
+    requires { 0 < count }
+{
+    match random.below(8) {
+        0 => Ok(Node::Not(random.below(count))),
+        1 => Ok(Node::And(some_places(alloc, random, 3, count)?)),
+        2 => Ok(Node::Or(some_places(alloc, random, 3, count)?)),
+        3 => Ok(Node::Xor(some_places(alloc, random, 4, count)?)),
+        4 => Ok(Node::Ite(
+            random.below(count),
+            random.below(count),
+            random.below(count),
+        )),
+        5 => Ok(Node::Eq(random.below(count), random.below(count))),
+        6 => Ok(Node::Distinct(some_places(alloc, random, 3, count)?)),
+        _ => Ok(if random.below(2) == 0 {
+            Node::True
+        } else {
+            Node::False
+        }),
+    }
+}
+
+// Twelve constants, and 40 nodes over them.
+fn random_problem(
+    rt: &impl Abort,
+    alloc: Global,
+    random: &mut Random,
+) -> Result<Problem, AllocError> {
+    let mut problem = Problem::new(alloc);
+    for number in 0..12u64 {
+        added(rt, &mut problem, Node::Const { number })?;
+    }
+    for _k in 0..40usize {
+        let count = problem.len();
+        assert!(rt; count > 0);
+        let node = random_node(alloc, random, count)?;
+        added(rt, &mut problem, node)?;
+    }
+    Ok(problem)
+}
+
+fn at(values: &[u64], k: usize) -> u64 {
+    values.get(k).copied().unwrap_or(0)
+}
+
+// The truth values of a constant in 64 rows of a table, as bits: of the rows that stand together,
+// the first six constants tell them apart, and the others are one in all.
+fn constant_bits(number: u64, block: u64) -> u64 {
+    match number {
+        0 => 0xAAAA_AAAA_AAAA_AAAA,
+        1 => 0xCCCC_CCCC_CCCC_CCCC,
+        2 => 0xF0F0_F0F0_F0F0_F0F0,
+        3 => 0xFF00_FF00_FF00_FF00,
+        4 => 0xFFFF_0000_FFFF_0000,
+        5 => 0xFFFF_FFFF_0000_0000,
+        6 => u64::MAX * (block % 2),
+        7 => u64::MAX * (block / 2 % 2),
+        8 => u64::MAX * (block / 4 % 2),
+        9 => u64::MAX * (block / 8 % 2),
+        10 => u64::MAX * (block / 16 % 2),
+        _ => u64::MAX * (block / 32 % 2),
+    }
+}
+
+fn distinct_bits(values: &[u64], places: &[usize]) -> u64 {
+    match places {
+        [] => u64::MAX,
+        [_] => u64::MAX,
+        [a, b] => at(values, *a) ^ at(values, *b),
+        _ => 0,
+    }
+}
+
+// The truth values of a node in 64 rows.
+fn node_bits(node: &Node, values: &[u64], block: u64) -> u64 {
+    match node {
+        Node::True => u64::MAX,
+        Node::False => 0,
+        Node::Const { number } => constant_bits(*number, block),
+        Node::Not(a) => !at(values, *a),
+        Node::And(args) => {
+            let mut all = u64::MAX;
+            for a in args.as_slice() {
+                all = all & at(values, *a);
+            }
+            all
+        }
+        Node::Or(args) => {
+            let mut some = 0u64;
+            for a in args.as_slice() {
+                some = some | at(values, *a);
+            }
+            some
+        }
+        Node::Xor(args) => {
+            let mut odd = 0u64;
+            for a in args.as_slice() {
+                odd = odd ^ at(values, *a);
+            }
+            odd
+        }
+        Node::Ite(c, a, b) => {
+            (at(values, *c) & at(values, *a)) | (!at(values, *c) & at(values, *b))
+        }
+        Node::Eq(a, b) => !(at(values, *a) ^ at(values, *b)),
+        Node::Distinct(args) => distinct_bits(values, args.as_slice()),
+    }
+}
+
+// Whether the table has a row in which all literals are true.
+fn has_row(alloc: Global, problem: &Problem, lits: &[NodeLit]) -> Result<bool, AllocError> {
+    for block in 0..64u64 {
+        let mut values: Vec<u64> = Vec::new(alloc);
+        for k in 0..problem.len() {
+            if let Some(node) = problem.node(k) {
+                let bits = node_bits(node, values.as_slice(), block);
+                values.push(bits)?;
+            }
+        }
+        let mut all = u64::MAX;
+        for lit in lits {
+            let bits = at(values.as_slice(), lit.node);
+            all = all & (if lit.positive { bits } else { !bits });
+        }
+        if all != 0 {
+            return Ok(true);
+        }
+    }
+    Ok(false)
+}
+
+#[test]
+fn random_problems_have_their_truth_tables(rt: HostRuntime) -> Result<(), Fail> {
+    let alloc = rt.alloc();
+    let mut random = Random { state: 2026 };
+    let (mut sat, mut unsat) = (0u32, 0u32);
+    for _i in 0..100u32 {
+        let problem = random_problem(&rt, alloc, &mut random)?;
+        let mut lits: Vec<NodeLit> = Vec::new(alloc);
+        for _j in 0..4u32 {
+            let node = 12 + random.below(40);
+            let positive = random.below(2) == 0;
+            lits.push(NodeLit { node, positive })?;
+        }
+        let expected = has_row(alloc, &problem, lits.as_slice())?;
+        match verdict(&rt, alloc, &problem, lits.as_slice(), Turns::Whole)? {
+            Verdict::Sat(_) => assert!(rt; expected),
+            Verdict::Unsat(_) => assert!(rt; !expected),
+            Verdict::Unknown(_) => assert!(rt; false),
+        }
+        if expected {
+            sat = sat.saturating_add(1);
+        } else {
+            unsat = unsat.saturating_add(1);
+        }
+    }
+    // both answers come
+    assert!(rt; sat > 9 && unsat > 9);
     Ok(())
 }

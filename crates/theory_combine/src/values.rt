@@ -1,10 +1,10 @@
 //! The values of nodes where the constants have given values.
 
-ghost use Rattle.std.specs.Prelude.{◌≡◌, ◌<◌, Some, All, length, IfOk};
+ghost use Rattle.std.specs.Prelude.{◌≡◌, ◌<◌, Some, All, length, map, IfOk};
 ghost use Rattle.std.specs.List.{list_all, list_any};
 ghost use Rattle.y_tree.specs.Sorts.{boolean};
 ghost use Rattle.y_tree.specs.Values.{truth};
-ghost use Rattle.y_tree.specs.Meaning.{truth_of, apply, value_in};
+ghost use Rattle.y_tree.specs.Meaning.{truth_of, apply, value_in, is_odd, are_distinct};
 ghost use Rattle.theory_combine.specs.Nodes.{op_of, arguments_of, number_of, number_at, constants_in, booleans};
 ghost use Rattle.theory_combine.specs.Values.{values_at, AreValues, IsTable};
 
@@ -146,6 +146,16 @@ fn value_over(node: &Node, values: &[bool], given: &ConstValues) -> bool
         Node::Not(argument) => !values[*argument],
         Node::And(arguments) => all_true(values, arguments.as_slice()),
         Node::Or(arguments) => some_true(values, arguments.as_slice()),
+        Node::Xor(arguments) => odd_true(values, arguments.as_slice()),
+        Node::Ite(test, yes, no) => {
+            if values[*test] {
+                values[*yes]
+            } else {
+                values[*no]
+            }
+        }
+        Node::Eq(left, right) => values[*left] == values[*right],
+        Node::Distinct(arguments) => all_differ(values, arguments.as_slice()),
     }
 }
 
@@ -173,4 +183,31 @@ fn some_true(values: &[bool], places: &[usize]) -> bool
         }
     }
     false
+}
+
+// Whether an odd number of the values at the places is true.
+fn odd_true(values: &[bool], places: &[usize]) -> bool
+    requires { All (λ a. a < length values.now) places.now }
+    ensures { result ≡ is_odd (map truth_of (values_at values.now places.now)) }
+{
+    let mut odd = false;
+    for place in places {
+        if values[*place] {
+            odd = !odd;
+        }
+    }
+    odd
+}
+
+// Whether no two values at the places are one: of three truth values two are.
+fn all_differ(values: &[bool], places: &[usize]) -> bool
+    requires { All (λ a. a < length values.now) places.now }
+    ensures { result ≡ are_distinct boolean (values_at values.now places.now) }
+{
+    match places {
+        [] => true,
+        [_] => true,
+        [left, right] => values[*left] != values[*right],
+        _ => false,
+    }
 }

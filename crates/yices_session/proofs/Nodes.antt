@@ -37,6 +37,10 @@ number_below m n le (node_of.Const number) h = omega (arith, h, le)
 number_below m n le (node_of.Not a) h = tt
 number_below m n le (node_of.And args) h = tt
 number_below m n le (node_of.Or args) h = tt
+number_below m n le (node_of.Xor args) h = tt
+number_below m n le (node_of.Ite c a b) h = tt
+number_below m n le (node_of.Eq a b) h = tt
+number_below m n le (node_of.Distinct args) h = tt
 
 pub numbers_below : (m n : ℕ) → m ≤ n → (xs : List Node) → AllByRecursion (NumberBelow m) xs → AllByRecursion (NumberBelow n) xs
 numbers_below m n le [] h = tt
@@ -177,6 +181,10 @@ operator_node (node_of.Const number) w is = absurd (no_constant (bytes_eq w (cod
 operator_node (node_of.Not a) w is = tt
 operator_node (node_of.And args) w is = tt
 operator_node (node_of.Or args) w is = tt
+operator_node (node_of.Xor args) w is = tt
+operator_node (node_of.Ite c a b) w is = tt
+operator_node (node_of.Eq a b) w is = tt
+operator_node (node_of.Distinct args) w is = tt
 
 pub built_op : (ns : List (List ℕ × Binding)) (old mid new : List Node) (e : Expr) (at : Place) (w : List ℕ) (es : Exprs) (ks : List ℕ) (n : Node) (k : ℕ)
     → e ≡ operation at w es → BuildsAll ns old mid es ks → takes w (length ks) ≡ true → op_of n ≡ op_named w → arguments_of n ≡ ks → new ≡ mid ++ n ∷ [] → k ≡ length mid → Builds ns old new e k

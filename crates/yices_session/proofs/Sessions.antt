@@ -325,6 +325,10 @@ entry_below n (Some (node_of.Const number)) b h = (h (node_of.Const number) refl
 entry_below n (Some (node_of.Not a)) b h = tt
 entry_below n (Some (node_of.And args)) b h = tt
 entry_below n (Some (node_of.Or args)) b h = tt
+entry_below n (Some (node_of.Xor args)) b h = tt
+entry_below n (Some (node_of.Ite c a e)) b h = tt
+entry_below n (Some (node_of.Eq a e)) b h = tt
+entry_below n (Some (node_of.Distinct args)) b h = tt
 
 below_at : (n : ℕ) (nodes : List Node) → AllByRecursion (NumberBelow n) nodes → (k : ℕ) (x : Node) → slice_get nodes k ≡ Some x → NumberBelow n x
 below_at n [] h k x e = absurd (cc e)

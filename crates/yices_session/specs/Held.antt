@@ -56,6 +56,10 @@ NumberBelow n (node_of.Const number) = number < n
 NumberBelow n (node_of.Not a) = Unit {0}
 NumberBelow n (node_of.And args) = Unit {0}
 NumberBelow n (node_of.Or args) = Unit {0}
+NumberBelow n (node_of.Xor args) = Unit {0}
+NumberBelow n (node_of.Ite c a b) = Unit {0}
+NumberBelow n (node_of.Eq a b) = Unit {0}
+NumberBelow n (node_of.Distinct args) = Unit {0}
 
 -- the numbers are those of nodes, the formulas are to be true, and constants are those of names
 pub record IsSound (h : Held) : Type 0 where

@@ -19,7 +19,7 @@ use crate::names::Names;
 use crate::refusal::{Reply, Stop};
 use crate::session::Session;
 use std::alloc::Global;
-use theory_combine::{ConstValues, Problem, Verdict, constant_values, decide, values_under};
+use theory_combine::{ConstValues, Problem, Turns, Verdict, constant_values, decide, values_under};
 use yices_text::Expr;
 
 impl Session {
@@ -29,7 +29,12 @@ impl Session {
         ensures cause { IfErr result (λ e. e ≡ NoMemory) }
         ensures err { OnErr result (state_of self.new ≡ state_of self.old) }
     {
-        match decide(self.alloc, &self.problem, self.formulas.as_slice()) {
+        match decide(
+            self.alloc,
+            &self.problem,
+            self.formulas.as_slice(),
+            Turns::Whole,
+        ) {
             Ok(Verdict::Sat(values)) => {
                 let model = constant_values(self.alloc, &self.problem, &values)?;
                 self.model = Some(model);
@@ -39,6 +44,8 @@ impl Session {
                 self.model = None;
                 Ok(Reply::Unsat)
             }
+            // without a limit there is an answer
+            Ok(Verdict::Unknown(_)) => unreachable!(),
             Err(_) => Err(Stop::NoMemory),
         }
     }
