@@ -20,4 +20,5 @@ pub mod Growing
 pub mod Adding
 pub mod Extending
 pub mod Placing
+pub mod Marking
 pub mod Readings

@@ -1,5 +1,5 @@
 -- What is read off an answer, one place after another.
-use Rattle.std.proofs.Common.{◌≡◌, ◌∙◌, ◌+◌, ◌<◌, ◌++◌, ℕ, zero, suc, Bool, true, false, List, [], ◌∷◌, Option, Some, None, inl, inr, ⊎_elim, length, map, take, get_or, refl, sym, ap, subst, arith, All}
+use Rattle.std.proofs.Common.{◌≡◌, ◌∙◌, ◌+◌, ◌<◌, ◌++◌, ℕ, suc, Bool, true, false, List, [], ◌∷◌, Option, Some, None, inl, inr, ⊎_elim, length, map, take, get_or, refl, sym, ap, subst, arith, All}
 use Rattle.std.specs.Prelude.{slice_get, unwrap_or}
 use Rattle.std.proofs.lemmas.List.{map-append}
 use Rattle.std.proofs.lemmas.Bool.{cases_eq}
@@ -16,20 +16,8 @@ use Rattle.theory_combine.specs.Reading.{value_at, Assigns, Names}
 use Rattle.theory_combine.proofs.Gets.{push_cases, push_old, push_here, map_more}
 use Rattle.theory_combine.specs.Shapes.{true_at}
 use Rattle.theory_combine.specs.Encoding.{Encoded, Encodes, lit_at, turned, assumed_at}
-use Rattle.theory_combine.proofs.Adding.{no_lit}
 use Rattle.theory_combine.proofs.Placing.{slice_get_here}
 use Rattle.theory_combine.proofs.Steps.{some_at}
-
--- a literal that is found, and one that isn't
-pub in_from : (xs : List Lit) (i : ℕ) (l : Lit) → i < length xs → get_or xs i no_lit ≡ l → In l xs
-in_from [] i l h e = absurd (omega (arith, h))
-in_from (x ∷ xs) zero l h e = inl e
-in_from (x ∷ xs) (suc i) l h e = inr (in_from xs i l (omega (arith, h)) e)
-
-pub not_in : (xs : List Lit) (l : Lit) → ((j : ℕ) → j < length xs → get_or xs j no_lit ≡ l → ⊥) → In l xs → ⊥
-not_in [] l h i = i
-not_in (x ∷ xs) l h (inl e) = h zero (omega arith) e
-not_in (x ∷ xs) l h (inr k) = not_in xs l (λ j s. h (suc j) (omega (arith, s))) k
 
 module _ (assumed core : List Lit) (i : ℕ) (l : Lit) (here : slice_get assumed i ≡ Some l) (places : List ℕ) (names : Names assumed core i places) where
   same_here : (p : ℕ) (m : Lit) → p ≡ i → slice_get assumed p ≡ Some m → l ≡ m

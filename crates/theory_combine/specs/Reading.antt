@@ -1,7 +1,9 @@
 -- What is read off an answer of the search.
-use Rattle.std.specs.Prelude.{◌≡◌, ℕ, ◌<◌, Bool, false, List, Option, Some, None, slice_get, unwrap_or}
+use Rattle.std.specs.Prelude.{◌≡◌, ℕ, ◌<◌, Bool, true, false, nat_eq, if◌then◌else◌, List, Option, Some, None, slice_get, unwrap_or}
+use Rattle.std.specs.List.{list_any}
 use Rattle.clause_logic.specs.declared.Lit.{Lit}
 use Rattle.clause_logic.specs.Clauses.{In}
+use Rattle.theory_combine.specs.declared.deciding.Marks.{Marks}
 use Rattle.theory_combine.specs.declared.Node.{Node}
 use Rattle.theory_combine.specs.declared.Node.TheVariants as node_of
 use Rattle.theory_combine.specs.Gates.{truth}
@@ -20,6 +22,15 @@ pub record Assigns (nodes : List Node) (lits : List Lit) (shown : List (Option B
   pub every : (k number : ℕ) → k < done → slice_get nodes k ≡ Some (node_of.Const number) → (i : ℕ) × (slice_get values i ≡ Some (k, value_at lits shown k))
   pub only : (i : ℕ) (e : ℕ × Bool) → slice_get values i ≡ Some e → (number : ℕ) × (slice_get nodes e.0 ≡ Some (node_of.Const number)) × (e.1 ≡ value_at lits shown e.0) × (e.0 < done)
   pub rising : (i j : ℕ) (e d : ℕ × Bool) → i < j → slice_get values i ≡ Some e → slice_get values j ≡ Some d → e.0 < d.0
+
+-- the literal is marked
+abbrev pub marked : Marks → Lit → Bool
+marked m l = list_any (nat_eq l.var) (if l.positive then m.positive.keys else m.negative.keys)
+
+-- just the literals of the core are marked
+pub record AreMarks (core : List Lit) (marked : Lit → Bool) : Type 0 where
+  pub every : (l : Lit) → In l core → marked l ≡ true
+  pub only : (l : Lit) → marked l ≡ true → In l core
 
 -- the places among the first assumptions of those that stand in the core
 pub record Names (assumed core : List Lit) (done : ℕ) (places : List ℕ) : Type 0 where
