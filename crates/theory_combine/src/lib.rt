@@ -1,9 +1,17 @@
 //! Decides lists of literals over numbered nodes, and evaluates nodes.
 //!
 //! A [`Problem`] is a list of nodes, each an operator over earlier nodes, so that a node's number
-//! stands for a tree. [`decide`] finds values of the constants under which every literal is true,
-//! or says that there are none. [`values_under`] gives the value of each node where the constants
+//! stands for a tree. [`decide`] answers values of the constants under which every literal is true,
+//! or places of literals that no assignment makes true together, or, under a limit alone, what was
+//! learned before it was passed. [`values_under`] gives the value of each node where the constants
 //! have given values.
+//!
+//! Each node becomes a literal of a clause search, by clauses that hold just where the literal has
+//! the value that the node's shape gives it (Tseitin, On the complexity of derivation in
+//! propositional calculus, 1968). So a model of the clauses gives values of the constants, under which
+//! each node is as its literal, and what follows of the clauses holds of the nodes under every
+//! assignment. A clause that the search learned is one over nodes by the same names, and it is new
+//! there: each defining clause of a node is among the search's, or is propagated by them.
 #![tactic(auto)]
 
 ghost use Rattle.std.specs.Prelude.{◌≡◌, ℕ, ◌<◌, ◌≤◌, ◌+◌, [], ◌∷◌, ◌++◌, ◌↔◌, length, All, slice_get, IsTrue, IfOk, OnOk, OnErr, if◌then◌else◌, is_ok};
