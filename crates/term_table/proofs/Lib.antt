@@ -1,0 +1,16 @@
+pub mod Keeping
+pub mod Adding
+pub mod Finding
+pub mod Sweeping
+pub mod Counting
+pub mod Atoms
+pub mod Starting
+pub mod Lasting
+pub mod Sorting
+pub mod Rows
+pub mod Misfitting
+pub mod Giving
+pub mod Arities
+pub mod Standing
+pub mod Domains
+pub mod PlainSorts

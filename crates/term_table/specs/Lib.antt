@@ -1,0 +1,5 @@
+pub mod World
+pub mod Changes
+pub mod Start
+pub mod Checking
+pub mod Functions
