@@ -1,4 +1,5 @@
 pub mod Bound
+pub mod Extending
 pub mod Gets
 pub mod Learning
 pub mod Lits
@@ -6,3 +7,4 @@ pub mod Members
 pub mod Newness
 pub mod Records
 pub mod Turns
+pub mod Weakening

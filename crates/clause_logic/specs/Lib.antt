@@ -1,4 +1,5 @@
 pub mod Bound
 pub mod Clauses
 pub mod Laws
+pub mod Strength
 pub mod Trails
