@@ -1,97 +1,21 @@
--- Clauses that define one variable more change nothing for the older ones: what was new stays new.
+-- A node's clauses define its variable, so what was new stays new where nodes are added.
 use Rattle.std.proofs.Common.{◌≡◌, ◌∙◌, ℕ, ◌<◌, ◌++◌, zero, suc, Bool, true, false, not, List, [], ◌∷◌, ◌⊎◌, inl, inr, ⊎_elim, Some, length, map, refl, sym, ap, subst, arith, All}
 use Rattle.std.specs.Prelude.{slice_get}
-use Rattle.std.proofs.lemmas.Bool.{cases_eq}
 use Rattle.std.proofs.lemmas.Option.{same_Some, slice_get_within}
 use Rattle.y_tree.specs.Meaning.{is_odd}
 use Rattle.clause_logic.specs.declared.Lit.{Lit}
-use Rattle.clause_logic.specs.Clauses.{opposite, In, Both, Reached, given, unit, Clash, Others, New}
-use Rattle.theory_combine.specs.declared.Node.{Node}
-use Rattle.theory_combine.specs.declared.Node.TheVariants as node_of
-use Rattle.theory_combine.specs.declared.NodeLit.{NodeLit}
-use Rattle.theory_combine.specs.Nodes.{IsFormed, arguments_of}
+use Rattle.clause_logic.specs.Clauses.{opposite, In, Both, New}
+use Rattle.clause_logic.specs.Strength.{AreDefining}
+use Rattle.clause_logic.proofs.Newness.{new_fewer}
+use Rattle.clause_logic.proofs.Extending.{new_stays}
+use Rattle.node_encoding.specs.declared.Node.{Node}
+use Rattle.node_encoding.specs.declared.Node.TheVariants as node_of
+use Rattle.node_encoding.specs.declared.NodeLit.{NodeLit}
+use Rattle.node_encoding.specs.Nodes.{IsFormed, arguments_of}
 use Rattle.theory_combine.specs.Learned.{Given, lit_of}
-use Rattle.theory_combine.proofs.Gets.{all_get, push_cases, length_front}
-use Rattle.theory_combine.specs.Shapes.{unless, false_only_at, true_at, false_at, agree, are_different, IsDefining, RulesOut}
-use Rattle.theory_combine.proofs.Lits.{lit_cases, opposite_twice, not_self}
-
--- clauses that define a variable: each has one literal of it, and two with opposite ones have opposite literals of another variable
-pub record Define (g : ℕ) (added : List Lit → Type 0) : Type 0 where
-  pub some : (c : List Lit) → added c → (l : Lit) × In l c × (l.var ≡ g)
-  pub once : (c : List Lit) (l m : Lit) → added c → In l c → In m c → l.var ≡ g → m.var ≡ g → l ≡ m
-  pub blocked : (c d : List Lit) (l : Lit) → added c → added d → l.var ≡ g → In l c → In (opposite l) d → (y : Lit) × In y c × In (opposite y) d × (y.var ≡ g → ⊥)
-
-module _ (old added : List Lit → Type 0) (g : ℕ) (older : (c : List Lit) (l : Lit) → old c → In l c → l.var ≡ g → ⊥) (defines : Define g added) (c : List Lit) (over : (l : Lit) → In l c → l.var ≡ g → ⊥) (l : Lit) where
-  abbrev more : List Lit → Type 0
-  more d = old d ⊎ added d
-
-  abbrev P : Lit → Type 0
-  P = Reached old (Others c l)
-
-  -- older literals as before, and a literal of the variable where a clause of it is unit
-  abbrev Q : Lit → Type 0
-  Q m = ((m.var ≡ g → ⊥) × P m) ⊎ ((d : List Lit) × (m.var ≡ g) × added d × In m d × ((x : Lit) → In x d → (x ≡ m → ⊥) → P (opposite x)))
-
-  old_of : (m : Lit) → (m.var ≡ g → ⊥) → Q m → P m
-  old_of m n (inl h) = h.1
-  old_of m n (inr h) = absurd (n h.1)
-
-  begun : (m : Lit) → Others c l m → Q m
-  begun m o = inl ((λ e. over o.0 o.1 (sym (ap (λ (x : Lit). x.var) o.3) ∙ e)), given m o)
-
-  module _ (calm : Clash old (Others c l) → ⊥) where
-    apart : (m : Lit) → P m → P (opposite m) → ⊥
-    apart m p q = calm (inl (m, p, q))
-
-    -- a literal of the variable that is told, and a clause in which it is false
-    meets : (m : Lit) (d : List Lit) → m.var ≡ g → Q m → added d → In (opposite m) d → (y : Lit) × P (opposite y) × In (opposite y) d × (y.var ≡ g → ⊥)
-    meets m d e (inl h) there i = absurd (h.0 e)
-    meets m d e (inr (k, e_, has, j, others)) there i =
-        let one = defines.blocked k d m has there e j i in
-        (one.0, others one.0 one.1 (λ f. one.3 (ap (λ (x : Lit). x.var) f ∙ e)), one.2, one.3)
-
-    consistent : (m : Lit) → Q m → Q (opposite m) → ⊥
-    consistent m (inl h) q = apart m h.1 (old_of (opposite m) h.0 q)
-    consistent m (inr h) (inl k) = k.0 h.1
-    consistent m (inr (d, e, has, i, others)) (inr (k, f, there, j, rest)) =
-        let one = defines.blocked d k m has there e i j in
-        apart (opposite one.0) (others one.0 one.1 (λ s. one.3 (ap (λ (x : Lit). x.var) s ∙ e)))
-        (rest (opposite one.0) one.2 (λ s. one.3 (ap (λ (x : Lit). x.var) s ∙ e)))
-
-    closed : (d : List Lit) (m : Lit) → more d → In m d → ((x : Lit) → In x d → (x ≡ m → ⊥) → Q (opposite x)) → Q m
-    closed d m (inl h) i others =
-        inl (older d m h i, unit d m h i (λ x k n. old_of (opposite x) (older d x h k) (others x k n)))
-    closed d m (inr h) i others = ⊎_elim
-        (λ e. inr (d, e, h, i, (λ x k n. old_of (opposite x) (λ f. n (defines.once d x m h k i f e)) (others x k n))))
-        (λ n. let own = defines.some d h in
-        let told = others own.0 own.1 (λ s. n (ap (λ (x : Lit). x.var) (sym s) ∙ own.2)) in
-        let one = meets (opposite own.0) d own.2 told h (subst (λ x. In x d) (sym (opposite_twice own.0)) own.1) in
-        ⊎_elim
-        (λ s. inl (n, subst P s one.1))
-        (λ f. absurd (apart (opposite one.0) one.1 (old_of (opposite (opposite one.0)) one.3 (others (opposite one.0) one.2 f))))
-        (lit_cases (opposite one.0) m))
-        (cases_eq m.var g)
-
-    reached : (m : Lit) → Reached more (Others c l) m → Q m
-    reached m (given m_ s) = begun m s
-    reached m (unit d m_ h i others) = closed d m h i (λ x k n. reached (opposite x) (others x k n))
-
-    no_clash : Clash more (Others c l) → ⊥
-    no_clash (inl (m, p, q)) = consistent m (reached m p) (reached (opposite m) q)
-    no_clash (inr (d, inl h, all)) = calm (inr (d, h, (λ x k. old_of (opposite x) (older d x h k) (reached (opposite x) (all x k)))))
-    no_clash (inr (d, inr h, all)) =
-        let own = defines.some d h in
-        consistent own.0 (closed d own.0 (inr h) own.1 (λ x k n. reached (opposite x) (all x k))) (reached (opposite own.0) (all own.0 own.1))
-
--- what is new stays new where clauses define one variable more
-pub new_stays : (old added : List Lit → Type 0) (g : ℕ) → ((c : List Lit) (l : Lit) → old c → In l c → l.var ≡ g → ⊥) → Define g added → (c : List Lit) → ((l : Lit) → In l c → l.var ≡ g → ⊥) → New old c → New (λ d. old d ⊎ added d) c
-new_stays old added g older defines c over (l, i, calm, reaches, misses) = (
-  l,
-  i,
-  no_clash old added g older defines c over l calm,
-  (λ r. reaches (old_of old added g older defines c over l l (over l i) (reached old added g older defines c over l calm l r))),
-  (λ r. misses (old_of old added g older defines c over l (opposite l) (over l i) (reached old added g older defines c over l calm (opposite l) r))),
-)
+use Rattle.node_encoding.proofs.Gets.{all_get, push_cases, length_front}
+use Rattle.node_encoding.specs.Shapes.{unless, false_only_at, true_at, false_at, agree, are_different, IsDefining, RulesOut}
+use Rattle.clause_logic.proofs.Lits.{not_self}
 
 -- the defining clauses of a node define it
 module _ (k : ℕ) where
@@ -147,7 +71,7 @@ module _ (k : ℕ) where
   first_lit value args bs l below (inl s) e = s
   first_lit value args bs l below (inr j) e = absurd (in_args args bs l below j e)
 
-  table_defines : (value : List Bool → Bool) (args : List ℕ) → All (λ a. a < k) args → Define k (RulesOut value k args)
+  table_defines : (value : List Bool → Bool) (args : List ℕ) → All (λ a. a < k) args → AreDefining k (RulesOut value k args)
   table_defines value args below = record {
     some = λ c (bs, count, e). (unless (not (value bs)) (true_at k), subst (In (unless (not (value bs)) (true_at k))) (sym e) (inl refl), unless_var (not (value bs)));
     once = λ c l m (bs, count, e) i j p q. sym (first_lit value args bs l below (subst (In l) e i) p) ∙ first_lit value args bs m below (subst (In m) e j) q;
@@ -174,14 +98,14 @@ module _ (k : ℕ) where
   only_one a p small m (inl s) e = let same : a ≡ k = ap (λ (x : Lit). x.var) s ∙ e in omega (arith, same, small)
   only_one a p small m (inr z) e = z
 
-  none_defines : (added : List Lit → Type 0) → ((c : List Lit) → added c → ⊥) → Define k added
+  none_defines : (added : List Lit → Type 0) → ((c : List Lit) → added c → ⊥) → AreDefining k added
   none_defines added none = record {
     some = λ c h. absurd (none c h);
     once = λ c l m h. absurd (none c h);
     blocked = λ c d l h. absurd (none c h);
   }
 
-  negation_defines : (a : ℕ) → a < k → Define k (IsDefining k (node_of.Not a))
+  negation_defines : (a : ℕ) → a < k → AreDefining k (IsDefining k (node_of.Not a))
   negation_defines a small = record { some = some; once = once; blocked = blocked }
     where
       some : (c : List Lit) → IsDefining k (node_of.Not a) c → (l : Lit) × In l c × (l.var ≡ k)
@@ -198,7 +122,7 @@ module _ (k : ℕ) where
       blocked c d l (inr e) (inl f) p i j = (false_at a, subst (In (false_at a)) (sym e) (inr (inl refl)), subst (In (true_at a)) (sym f) (inr (inl refl)), other_var a false small)
       blocked c d l (inr e) (inr f) p i j = absurd (same_sign (false_at k) l (at_first (false_at k) c _ l e (only_one a false small) i p) (at_first (false_at k) d _ (opposite l) f (only_one a false small) j p))
 
-  conjunction_defines : (args : List ℕ) → All (λ a. a < k) args → Define k (IsDefining k (node_of.And args))
+  conjunction_defines : (args : List ℕ) → All (λ a. a < k) args → AreDefining k (IsDefining k (node_of.And args))
   conjunction_defines args below = record { some = some; once = once; blocked = blocked }
     where
       some : (c : List Lit) → IsDefining k (node_of.And args) c → (l : Lit) × In l c × (l.var ≡ k)
@@ -219,7 +143,7 @@ module _ (k : ℕ) where
       blocked c d l (inr e) (inr f) p i j =
           absurd (same_sign (true_at k) l (at_first (true_at k) c _ l e (λ x. in_all false_at (λ b. refl) args x below) i p) (at_first (true_at k) d _ (opposite l) f (λ x. in_all false_at (λ b. refl) args x below) j p))
 
-  disjunction_defines : (args : List ℕ) → All (λ a. a < k) args → Define k (IsDefining k (node_of.Or args))
+  disjunction_defines : (args : List ℕ) → All (λ a. a < k) args → AreDefining k (IsDefining k (node_of.Or args))
   disjunction_defines args below = record { some = some; once = once; blocked = blocked }
     where
       some : (c : List Lit) → IsDefining k (node_of.Or args) c → (l : Lit) × In l c × (l.var ≡ k)
@@ -250,7 +174,7 @@ module _ (k : ℕ) where
       split (inr (inr (inl s))) = absurd (last (ap (λ (m : Lit). m.var) s ∙ p))
       split (inr (inr (inr z))) = absurd z
 
-  choice_defines : (t a b : ℕ) → t < k → a < k → b < k → Define k (IsDefining k (node_of.Ite t a b))
+  choice_defines : (t a b : ℕ) → t < k → a < k → b < k → AreDefining k (IsDefining k (node_of.Ite t a b))
   choice_defines t a b ht ha hb = record { some = some; once = once; blocked = blocked }
     where
       sign : (c : List Lit) → IsDefining k (node_of.Ite t a b) c → Lit
@@ -307,7 +231,7 @@ module _ (k : ℕ) where
   Brings node_of.False c = c ≡ false_at k ∷ []
   Brings n c = IsDefining k n c
 
-  alone_defines : (x : Lit) → x.var ≡ k → Define k (λ c. c ≡ x ∷ [])
+  alone_defines : (x : Lit) → x.var ≡ k → AreDefining k (λ c. c ≡ x ∷ [])
   alone_defines x own = record {
     some = λ c e. (x, subst (In x) (sym e) (inl refl), own);
     once = λ c l m e i j p q. ⊎_elim (λ s. ⊎_elim (λ r. sym s ∙ r) (λ z. absurd z) (subst (In m) e j)) (λ z. absurd z) (subst (In l) e i);
@@ -315,7 +239,7 @@ module _ (k : ℕ) where
   }
 
   -- each node's clauses define it
-  pub brings_defines : (n : Node) → All (λ a. a < k) (arguments_of n) → Define k (Brings n)
+  pub brings_defines : (n : Node) → All (λ a. a < k) (arguments_of n) → AreDefining k (Brings n)
   brings_defines node_of.True below = alone_defines (true_at k) refl
   brings_defines node_of.False below = alone_defines (false_at k) refl
   brings_defines (node_of.Const number) below = none_defines (IsDefining k (node_of.Const number)) (λ c h. h)
@@ -390,21 +314,6 @@ module _ (n k : ℕ) (here : k < n) where
   within_defining (node_of.Ite t a b) below c (inr (inr e)) = within_is n c _ e (within_three n (true_at t) (true_at k) (false_at b) (below 0 0 (omega arith)) here (below 2 0 (omega arith)))
   within_defining (node_of.Eq a b) below c is = within_rules agree (a ∷ b ∷ []) below c is
   within_defining (node_of.Distinct args) below c is = within_rules are_different args below c is
-
--- over fewer clauses a new clause is new too
-reached_fewer : (less more : List Lit → Type 0) (start : Lit → Type 0) → ((c : List Lit) → less c → more c) → (l : Lit) → Reached less start l → Reached more start l
-reached_fewer less more start sub x (given l s) = given l s
-reached_fewer less more start sub x (unit c l d i others) = unit c l (sub c d) i (λ m k n. reached_fewer less more start sub (opposite m) (others m k n))
-
-pub new_fewer : (less more : List Lit → Type 0) (c : List Lit) → ((d : List Lit) → less d → more d) → New more c → New less c
-new_fewer less more c sub (l, i, calm, reaches, misses) =
-    let go : (x : Lit) → Reached less (Others c l) x → Reached more (Others c l) x = reached_fewer less more (Others c l) sub in (
-      l,
-      i,
-      (λ t. calm (⊎_elim (λ a. inl (a.0, go a.0 a.1, go (opposite a.0) a.2)) (λ a. inr (a.0, sub a.0 a.1, (λ m k. go (opposite m) (a.2 m k)))) t)),
-      (λ r. reaches (go l r)),
-      (λ r. misses (go (opposite l) r)),
-    )
 
 -- a node more: what a record's clause says stays new
 module _ (nodes : List Node) (n : Node) (lits : List NodeLit) (earlier : List Lit → Type 0) (formed : IsFormed nodes) (fits : All (λ a. a < length nodes) (arguments_of n))

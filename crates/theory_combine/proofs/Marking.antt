@@ -6,8 +6,8 @@ use Rattle.std.proofs.lemmas.Bool.{eq-eqb, eqb-true}
 use Rattle.clause_logic.specs.declared.Lit.{Lit}
 use Rattle.clause_logic.specs.Clauses.{In}
 use Rattle.theory_combine.specs.Reading.{AreMarks}
-use Rattle.theory_combine.proofs.Lits.{same_lit}
-use Rattle.theory_combine.proofs.Combining.{take_next}
+use Rattle.clause_logic.proofs.Lits.{same_lit}
+use Rattle.node_encoding.proofs.Combining.{take_next}
 
 in_back : (xs : List Lit) (x l : Lit) → In l (xs ++ x ∷ []) → In l xs ⊎ (x ≡ l)
 in_back [] x l h = ⊎_elim inr (λ z. absurd z) h

@@ -6,18 +6,18 @@ use Rattle.std.proofs.lemmas.Bool.{cases_eq}
 use Rattle.std.proofs.lemmas.Option.{same_Some, slice_get_within}
 use Rattle.clause_logic.specs.declared.Lit.{Lit}
 use Rattle.clause_logic.specs.Clauses.{In}
-use Rattle.theory_combine.specs.declared.Node.{Node}
-use Rattle.theory_combine.specs.declared.Node.TheVariants as node_of
-use Rattle.theory_combine.specs.declared.NodeLit.{NodeLit}
-use Rattle.theory_combine.specs.Nodes.{number_of, IsFormed, Fits}
+use Rattle.node_encoding.specs.declared.Node.{Node}
+use Rattle.node_encoding.specs.declared.Node.TheVariants as node_of
+use Rattle.node_encoding.specs.declared.NodeLit.{NodeLit}
+use Rattle.node_encoding.specs.Nodes.{number_of, IsFormed, Fits}
 use Rattle.theory_combine.specs.Learned.{lit_of, clauses_of}
 use Rattle.theory_combine.specs.Naming.{rename}
 use Rattle.theory_combine.specs.Reading.{value_at, Assigns, Names}
-use Rattle.theory_combine.proofs.Gets.{push_cases, push_old, push_here, map_more}
-use Rattle.theory_combine.specs.Shapes.{true_at}
-use Rattle.theory_combine.specs.Encoding.{Encoded, Encodes, lit_at, turned, assumed_at}
-use Rattle.theory_combine.proofs.Placing.{slice_get_here}
-use Rattle.theory_combine.proofs.Steps.{some_at}
+use Rattle.node_encoding.proofs.Gets.{push_cases, push_old, push_here, map_more}
+use Rattle.node_encoding.specs.Shapes.{true_at}
+use Rattle.node_encoding.specs.Encoding.{Encoded, Encodes, lit_at, turned, assumed_at}
+use Rattle.node_encoding.proofs.Placing.{slice_get_here}
+use Rattle.node_encoding.proofs.Steps.{some_at}
 
 module _ (assumed core : List Lit) (i : ℕ) (l : Lit) (here : slice_get assumed i ≡ Some l) (places : List ℕ) (names : Names assumed core i places) where
   same_here : (p : ℕ) (m : Lit) → p ≡ i → slice_get assumed p ≡ Some m → l ≡ m

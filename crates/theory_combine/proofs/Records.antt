@@ -10,27 +10,29 @@ use Rattle.clause_logic.specs.Clauses.{opposite, In, Makes, Holds, Models, Units
 use Rattle.clause_logic.specs.Clauses as clause
 use Rattle.clause_search.specs.declared.Turns.{Turns}
 use Rattle.clause_search.specs.declared.Turns.TheVariants as turns
-use Rattle.theory_combine.specs.declared.Node.{Node}
-use Rattle.theory_combine.specs.declared.Node.TheVariants as node_of
-use Rattle.theory_combine.specs.declared.NodeLit.{NodeLit}
-use Rattle.theory_combine.specs.declared.encoding.Origin.{Origin}
-use Rattle.theory_combine.specs.declared.encoding.Origin.TheVariants as origin
-use Rattle.theory_combine.specs.Nodes.{IsFormed, Fits, HasArity, arguments_of}
-use Rattle.theory_combine.specs.Shapes.{unless, true_at, false_at, IsDefining}
-use Rattle.theory_combine.specs.Gates.{IsGate, unit_clauses}
-use Rattle.theory_combine.specs.Encoding.{Encoded, Encodes, origin_value, arguments_at, lit_at, turned, assumed_at, weight}
-use Rattle.theory_combine.specs.Learned.{lit_of, clauses_of, truths_of, Literal, Given, IsRecord, IsPastLimit}
+use Rattle.node_encoding.specs.declared.Node.{Node}
+use Rattle.node_encoding.specs.declared.Node.TheVariants as node_of
+use Rattle.node_encoding.specs.declared.NodeLit.{NodeLit}
+use Rattle.node_encoding.specs.declared.encoding.Origin.{Origin}
+use Rattle.node_encoding.specs.declared.encoding.Origin.TheVariants as origin
+use Rattle.node_encoding.specs.Nodes.{IsFormed, Fits, HasArity, arguments_of, truths_of}
+use Rattle.node_encoding.specs.Shapes.{unless, true_at, false_at, IsDefining, Literal}
+use Rattle.node_encoding.specs.Gates.{IsGate, unit_clauses}
+use Rattle.node_encoding.specs.Encoding.{Encoded, Encodes, origin_value, arguments_at, lit_at, turned, assumed_at, weight}
+use Rattle.theory_combine.specs.Learned.{lit_of, clauses_of, Given, IsRecord, IsPastLimit}
 use Rattle.theory_combine.specs.Naming.{HaveParities, HasFirst, first_of, rename, added_for, names_from, IsNamed}
-use Rattle.theory_combine.proofs.Gets.{all_get, map_same, get_append, length_front, get_cases, front_get}
-use Rattle.theory_combine.proofs.Lits.{in_map, in_map_cases}
-use Rattle.theory_combine.proofs.Listing.{listed_front, listed_back}
-use Rattle.theory_combine.proofs.Gating.{in_listed}
-use Rattle.theory_combine.proofs.TreeLaws.{tree_at_older}
-use Rattle.theory_combine.proofs.News.{IsClosed, Lifts, new_weaker, new_plain, new_holds_none, new_nonempty}
-use Rattle.theory_combine.proofs.Lifting.{phi, phi_opposite, imaged}
-use Rattle.theory_combine.proofs.GateLifts.{gate_lifts}
-use Rattle.theory_combine.proofs.Meanings.{shaped_at}
-use Rattle.theory_combine.proofs.Verdicts.{valuation, valuation_agrees, get_mapped, get_of_in, all_modelled}
+use Rattle.node_encoding.proofs.Gets.{get_mapped, all_get, map_same, get_append, get_cases, front_get}
+use Rattle.clause_logic.proofs.Members.{in_map, in_map_cases}
+use Rattle.node_encoding.proofs.Listing.{listed_front, listed_back}
+use Rattle.node_encoding.proofs.Gating.{in_listed}
+use Rattle.node_encoding.proofs.TreeLaws.{tree_at_older}
+use Rattle.clause_logic.specs.Strength.{IsClosed}
+use Rattle.clause_logic.proofs.Weakening.{imitates_closed, new_weaker, new_plain, new_holds_none, new_nonempty}
+use Rattle.node_encoding.proofs.Lifting.{phi, phi_opposite, imaged}
+use Rattle.node_encoding.proofs.GateLifts.{gate_lifts}
+use Rattle.node_encoding.proofs.Completing.{single, only_one, earlier}
+use Rattle.node_encoding.proofs.Meanings.{shaped_at}
+use Rattle.theory_combine.proofs.Verdicts.{valuation, valuation_agrees, get_of_in, all_modelled}
 use Rattle.theory_combine.proofs.Naming.{lits_for, added_at, name_at, length_names, get_behind, get_split, formed_append}
 
 pub closed_fewer : (less more : List Lit → Type 0) (P : Lit → Type 0) → ((c : List Lit) → less c → more c) → IsClosed more P → IsClosed less P
@@ -102,12 +104,9 @@ length_take (suc count) [] h g = absurd (omega (arith, g))
 length_take (suc count) (k ∷ ks) h g = omega arith
 
 module _ (problem : List Node) (formed : IsFormed problem) where
-  -- the arguments of a node of the problem are earlier
-  earlier : (k : ℕ) (n : Node) → slice_get problem k ≡ Some n → All (λ a. a < k) (arguments_of n)
-  earlier k n h i d small = let one = (formed.fits k n h).earlier i d small in omega (arith, one, length_front problem k n h)
-
+  -- the arguments of a node of the problem are nodes of it
   earlier_all : (k : ℕ) (n : Node) → slice_get problem k ≡ Some n → All (λ a. a < length problem) (arguments_of n)
-  earlier_all k n h i d small = let one = earlier k n h i d small in let there = slice_get_within problem k n h in omega (arith, one, there)
+  earlier_all k n h i d small = let one = earlier problem formed k n h i d small in let there = slice_get_within problem k n h in omega (arith, one, there)
 
   module _ (origins : List Origin) (parities : HaveParities problem origins) where
     -- the parity that a variable stands for is one of the problem's, and fits all nodes behind it
@@ -315,12 +314,6 @@ module _ (problem : List Node) (formed : IsFormed problem) (e : Encoded) (encode
         new_some : {clauses : List Lit → Type 0} (c : List Lit) → New clauses c → (l : Lit) × In l c
         new_some c (l, k, calm, reaches, misses) = (l, k)
 
-    single : (P : Lit → Type 0) (clauses : List Lit → Type 0) → IsClosed clauses P → (g : Lit) → clauses (g ∷ []) → P g
-    single P clauses closed g h = closed.unit_of (g ∷ []) g h (inl refl) (λ m k n. ⊎_elim (λ e. absurd (n (sym e))) (λ z. absurd z) k)
-
-    only_one : (x l : Lit) (d : List Lit) → d ≡ x ∷ [] → In l d → x ≡ l
-    only_one x l d e k = ⊎_elim (λ s. s) (λ z. absurd z) (subst (In l) e k)
-
     -- the literal of the search of a problem's literal is a clause of the search, or an assumption
     known_unit : (i : ℕ) (x : NodeLit) (k : ℕ) → slice_get problem_lits k ≡ Some x → (x.node < length problem) × Strong i (assumed_at e.lits x ∷ [])
     known_unit i x k h =
@@ -337,8 +330,8 @@ module _ (problem : List Node) (formed : IsFormed problem) (e : Encoded) (encode
         (get_cases asserted open_lits k x h)
 
     -- what is closed over the search's clauses is closed over the nodes' clauses
-    lifts_all : (i : ℕ) (P : Lit → Type 0) → IsClosed (Strong i) P → Lifts (Weak i) (phi lits) P
-    lifts_all i P closed = record { lift = lift }
+    lifts_all : (i : ℕ) (P : Lit → Type 0) → IsClosed (Strong i) P → (d : List Lit) (l : Lit) → Weak i d → In l d → ((m : Lit) → In m d → (m ≡ l → ⊥) → P (phi lits (opposite m))) → P (phi lits l)
+    lifts_all i P closed = lift
       where
         clauses_closed : IsClosed (Listed e.clauses) P
         clauses_closed = closed_fewer (Listed e.clauses) (Strong i) P (λ c h. inl (inl (subst (λ w. Listed w c) (sym whole) (listed_front e.clauses (unit_clauses given) c h)))) closed
@@ -363,7 +356,7 @@ module _ (problem : List Node) (formed : IsFormed problem) (e : Encoded) (encode
 
     new_all : (i : ℕ) (c : List Lit) → slice_get learned i ≡ Some c → New (Weak i) (map (rename names) c)
     new_all i c h =
-        new_weaker (Weak i) (Strong i) (phi lits) (rename names) (phi_opposite lits) (weak_some i) (lifts_all i) c (back i c h) (recorded.new i c h)
+        new_weaker (Weak i) (Strong i) (phi lits) (rename names) (phi_opposite lits) (λ d. (weak_some i [] d).1) (imitates_closed (Weak i) (Strong i) (phi lits) (lifts_all i)) c (back i c h) (recorded.new i c h)
 
     -- the origin's value is the name's truth value
     abbrev value_of : Assignment → ℕ → Bool

@@ -6,8 +6,8 @@ use Rattle.std.proofs.lemmas.List.{at_drop_more}
 use Rattle.y_tree.specs.Sorts.{boolean}
 use Rattle.y_tree.specs.Values.{Value, truth, has_sort, zero_of}
 use Rattle.y_tree.specs.Meaning.{value_in}
-use Rattle.theory_combine.specs.declared.Node.{Node}
-use Rattle.theory_combine.specs.Nodes.{number_at, entry_of, constants_in, booleans}
+use Rattle.node_encoding.specs.declared.Node.{Node}
+use Rattle.node_encoding.specs.Nodes.{number_at, entry_of, constants_in, booleans}
 use Rattle.theory_combine.specs.Values.{truth_in, IsTable}
 
 truth_step : (t b : Bool) (v : Value) (c : Bool) → v ≡ truth c → cond {A = Value} (t && true) (truth b) v ≡ truth (cond t b c)

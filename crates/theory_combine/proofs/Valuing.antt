@@ -5,15 +5,16 @@ use Rattle.std.specs.List.{list_all, list_any}
 use Rattle.std.proofs.lemmas.List.{at_drop_more, map-append}
 use Rattle.std.proofs.lemmas.Option.{slice_get_read, slice_get-get_or}
 use Rattle.y_tree.specs.Sorts.{boolean}
-use Rattle.y_tree.specs.Values.{Value, truth, same_truth}
+use Rattle.y_tree.specs.Values.{truth, same_truth}
 use Rattle.y_tree.specs.Tree.{trees}
 use Rattle.y_tree.specs.Meaning.{Assignment, truth_of, is_odd, are_distinct, apply, meaning, meanings}
-use Rattle.theory_combine.specs.declared.Node.{Node}
-use Rattle.theory_combine.specs.Nodes.{op_of, arguments_of, IsFormed, tree_at}
+use Rattle.node_encoding.specs.declared.Node.{Node}
+use Rattle.node_encoding.specs.Nodes.{op_of, arguments_of, IsFormed, tree_at}
 use Rattle.theory_combine.specs.Values.{AreValues, values_at}
-use Rattle.theory_combine.proofs.Gets.{push_cases, length_front}
-use Rattle.theory_combine.proofs.Combining.{take_next}
-use Rattle.theory_combine.proofs.TreeLaws.{meaning_at}
+use Rattle.node_encoding.proofs.Gets.{push_cases, length_front}
+use Rattle.node_encoding.proofs.Combining.{take_next}
+use Rattle.node_encoding.proofs.TreeLaws.{meaning_at}
+use Rattle.node_encoding.proofs.Meanings.{three_alike}
 
 -- whether all, or some, values at places are true, from place i on
 module _ (values : List Bool) (places : List ℕ) (i : ℕ) (within : i < length places) where
@@ -88,19 +89,6 @@ odd_more values places i within odd known =
     ∙ ap is_odd (sym (ap (λ ks. map truth_of (values_at values ks)) (take_next places i (get_or places i 0) (slice_get-get_or places i 0 within))
     ∙ ap (map truth_of) (map-append (λ k. truth (get_or values k false)) (take i places) (get_or places i 0 ∷ []))
     ∙ map-append truth_of (values_at values (take i places)) (truth here ∷ [])))
-
-and_false : (b : Bool) → (b && false) ≡ false
-and_false true = refl
-and_false false = refl
-
--- of three truth values two are one
-pub three_alike : (a b c : Bool) (vs : List Value) → false ≡ are_distinct boolean (truth a ∷ truth b ∷ truth c ∷ vs)
-three_alike true true c vs = refl
-three_alike true false true vs = refl
-three_alike true false false vs = sym (and_false _)
-three_alike false true true vs = sym (and_false _)
-three_alike false true false vs = refl
-three_alike false false c vs = refl
 
 -- two truth values differ
 pub two_differ : (a b : Bool) → not (same_truth a b) ≡ are_distinct boolean (truth a ∷ truth b ∷ [])

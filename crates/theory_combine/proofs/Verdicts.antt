@@ -1,6 +1,7 @@
 -- What the search's answers say of the nodes.
-use Rattle.std.proofs.Common.{◌≡◌, ◌∙◌, ◌<◌, ◌≤◌, ◌++◌, cond, ℕ, zero, suc, Bool, true, false, not, List, [], ◌∷◌, Option, Some, None, inl, inr, ⊎_elim, length, map, take, get_or, refl, sym, ap, subst, arith, All}
+use Rattle.std.proofs.Common.{◌≡◌, ◌∙◌, ◌<◌, ◌++◌, cond, ℕ, zero, suc, Bool, true, false, not, List, [], ◌∷◌, Option, Some, None, inl, inr, ⊎_elim, length, map, get_or, refl, sym, ap, subst, arith, All}
 use Rattle.std.specs.Prelude.{slice_get, unwrap_or}
+use Rattle.std.proofs.lemmas.List.{take_all}
 use Rattle.std.proofs.lemmas.Bool.{cases_eq, eq-eqb, ne_eqb}
 use Rattle.std.proofs.lemmas.Option.{same_Some, slice_get_within, slice_get-get_or}
 use Rattle.y_tree.specs.Sorts.{boolean}
@@ -10,22 +11,22 @@ use Rattle.clause_logic.specs.declared.Lit.{Lit}
 use Rattle.clause_logic.specs.Clauses.{In, Models, Listed}
 use Rattle.clause_search.specs.Answers.{IsUnsatCore}
 use Rattle.clause_search.specs.Answers as search
-use Rattle.theory_combine.specs.declared.Node.{Node}
-use Rattle.theory_combine.specs.declared.Node.TheVariants as node_of
-use Rattle.theory_combine.specs.declared.NodeLit.{NodeLit}
-use Rattle.theory_combine.specs.declared.encoding.Origin.{Origin}
-use Rattle.theory_combine.specs.Nodes.{IsFormed, arguments_of, number_at, number_of, entry_of, constants_in, assignment_of, Makes, MakesAll}
+use Rattle.node_encoding.specs.declared.Node.{Node}
+use Rattle.node_encoding.specs.declared.Node.TheVariants as node_of
+use Rattle.node_encoding.specs.declared.NodeLit.{NodeLit}
+use Rattle.node_encoding.specs.declared.encoding.Origin.{Origin}
+use Rattle.node_encoding.specs.Nodes.{IsFormed, number_at, number_of, entry_of, constants_in, assignment_of, Makes, MakesAll, truths_of}
 use Rattle.theory_combine.specs.Answers.{IsSolution, IsConflict, IsConflictUnder}
 use Rattle.theory_combine.specs.Reading.{shown_at, value_at, Assigns, Names}
-use Rattle.theory_combine.specs.Shapes.{shape_value, IsShaped, Obeys, true_at}
-use Rattle.theory_combine.specs.Gates.{truth, unit_clauses}
-use Rattle.theory_combine.specs.Encoding.{Encoded, Encodes, Agrees, origin_value, lit_at, turned, assumed_at}
-use Rattle.theory_combine.specs.Learned.{truths_of}
+use Rattle.node_encoding.specs.Shapes.{Obeys, true_at}
+use Rattle.node_encoding.specs.Gates.{truth, unit_clauses}
+use Rattle.node_encoding.specs.Encoding.{Encoded, Encodes, Agrees, origin_value, lit_at, turned, assumed_at}
 use Rattle.theory_combine.specs.Values.{truth_in}
-use Rattle.theory_combine.proofs.Gets.{all_get, map_same, length_front, get_cases}
-use Rattle.theory_combine.proofs.Listing.{makes_truth, truth_opposite, true_signed, models_append, holds_first, listed_front, listed_back}
-use Rattle.theory_combine.proofs.Gating.{gate_complete, map_map, map_models, in_listed}
-use Rattle.theory_combine.proofs.Meanings.{obeys, const_meaning}
+use Rattle.node_encoding.proofs.Gets.{get_mapped, all_get, get_cases}
+use Rattle.node_encoding.proofs.Listing.{makes_truth, truth_opposite, true_signed, models_append, holds_first, listed_front, listed_back}
+use Rattle.node_encoding.proofs.Gating.{map_models, in_listed}
+use Rattle.node_encoding.proofs.Completing.{earlier, told, shaped}
+use Rattle.node_encoding.proofs.Meanings.{obeys, const_meaning}
 use Rattle.theory_combine.proofs.Tables.{value_in_booleans}
 
 -- the truth values of what the variables stand for
@@ -56,11 +57,6 @@ get_within : {X : Type 0} (xs : List X) (k : ℕ) → k < length xs → (x : X) 
 get_within [] k h = absurd (omega (arith, h))
 get_within (x ∷ xs) zero h = (x, refl)
 get_within (x ∷ xs) (suc k) h = get_within xs k (omega (arith, h))
-
-pub get_mapped : {X Y : Type 0} (f : X → Y) (xs : List X) (j : ℕ) (y : Y) → slice_get (map f xs) j ≡ Some y → (x : X) × (slice_get xs j ≡ Some x) × (f x ≡ y)
-get_mapped f [] j y e = absurd (cc e)
-get_mapped f (x ∷ xs) zero y e = (x, refl, same_Some (f x) y e)
-get_mapped f (x ∷ xs) (suc j) y e = get_mapped f xs j y e
 
 pub get_of_in : (xs : List Lit) (l : Lit) → In l xs → (i : ℕ) × (slice_get xs i ≡ Some l)
 get_of_in [] l h = absurd h
@@ -128,37 +124,6 @@ module _ (nodes : List Node) (e : Encoded) (encodes : Encodes nodes e) (all : le
         placed (x ∷ xs) zero p h = same_Some x p h
         placed (x ∷ xs) (suc i) p h = placed xs i p h
 
--- truth values that are as the shapes say are told by those of the constants
-module _ (nodes : List Node) (formed : IsFormed nodes) (t u : ℕ → Bool) (ot : Obeys nodes t) (ou : Obeys nodes u)
-    (same : (k number : ℕ) → slice_get nodes k ≡ Some (node_of.Const number) → t k ≡ u k) where
-  from_arguments : (k : ℕ) (n : Node) → slice_get nodes k ≡ Some n → ((j : ℕ) → j < k → t j ≡ u j) → map t (arguments_of n) ≡ map u (arguments_of n)
-  from_arguments k n h before =
-      map_same t u (arguments_of n)
-      (λ j a e. before a (let small = all_get (λ b. b < length (take k nodes)) (arguments_of n) j a (formed.fits k n h).earlier e in omega (arith, small, length_front nodes k n h)))
-
-  at_node : (k : ℕ) (n : Node) → slice_get nodes k ≡ Some n → ((j : ℕ) → j < k → t j ≡ u j) → t k ≡ u k
-  at_node k (node_of.Const number) h before = same k number h
-  at_node k node_of.True h before = ot.shaped k node_of.True h ∙ sym (ou.shaped k node_of.True h)
-  at_node k node_of.False h before = ot.shaped k node_of.False h ∙ sym (ou.shaped k node_of.False h)
-  at_node k (node_of.Not a) h before = ot.shaped k (node_of.Not a) h ∙ ap (shape_value (node_of.Not a)) (from_arguments k (node_of.Not a) h before) ∙ sym (ou.shaped k (node_of.Not a) h)
-  at_node k (node_of.And args) h before = ot.shaped k (node_of.And args) h ∙ ap (shape_value (node_of.And args)) (from_arguments k (node_of.And args) h before) ∙ sym (ou.shaped k (node_of.And args) h)
-  at_node k (node_of.Or args) h before = ot.shaped k (node_of.Or args) h ∙ ap (shape_value (node_of.Or args)) (from_arguments k (node_of.Or args) h before) ∙ sym (ou.shaped k (node_of.Or args) h)
-  at_node k (node_of.Xor args) h before = ot.shaped k (node_of.Xor args) h ∙ ap (shape_value (node_of.Xor args)) (from_arguments k (node_of.Xor args) h before) ∙ sym (ou.shaped k (node_of.Xor args) h)
-  at_node k (node_of.Ite c a b) h before = ot.shaped k (node_of.Ite c a b) h ∙ ap (shape_value (node_of.Ite c a b)) (from_arguments k (node_of.Ite c a b) h before) ∙ sym (ou.shaped k (node_of.Ite c a b) h)
-  at_node k (node_of.Eq a b) h before = ot.shaped k (node_of.Eq a b) h ∙ ap (shape_value (node_of.Eq a b)) (from_arguments k (node_of.Eq a b) h before) ∙ sym (ou.shaped k (node_of.Eq a b) h)
-  at_node k (node_of.Distinct args) h before = ot.shaped k (node_of.Distinct args) h ∙ ap (shape_value (node_of.Distinct args)) (from_arguments k (node_of.Distinct args) h before) ∙ sym (ou.shaped k (node_of.Distinct args) h)
-
-  below_all : (bound : ℕ) → bound ≤ length nodes → (k : ℕ) → k < bound → t k ≡ u k
-  below_all zero small k h = absurd (omega (arith, h))
-  below_all (suc bound) small k h =
-      ⊎_elim
-      (λ e. let one = get_within nodes bound (omega (arith, small)) in ap t e ∙ at_node bound one.0 one.1 (λ j. below_all bound (omega (arith, small)) j) ∙ ap u (sym e))
-      (λ d. below_all bound (omega (arith, small)) k (omega (arith, h, d)))
-      (cases_eq k bound)
-
-  pub told : (k : ℕ) → k < length nodes → t k ≡ u k
-  told k h = below_all (length nodes) (omega arith) k h
-
 -- truth values of nodes, read as those of constants, give a constant its value
 value_read : (nodes : List Node) (values : List (ℕ × Bool)) (number : ℕ) (b : Bool) → ((i : ℕ) (e : ℕ × Bool) → slice_get values i ≡ Some e → (m : ℕ) × (number_at nodes e.0 ≡ Some m) × (m ≡ number → e.1 ≡ b))
     → (i : ℕ) (e : ℕ × Bool) → slice_get values i ≡ Some e → number_at nodes e.0 ≡ Some number → truth_in (constants_in nodes values) number ≡ b
@@ -188,26 +153,8 @@ module _ (nodes : List Node) (e : Encoded) (encodes : Encodes nodes e) (all : le
   models : Models (shown_at shown) (Listed e.clauses)
   models c there = let one = solved.clauses c (subst (λ w. Listed w c) (sym whole) (listed_front e.clauses (unit_clauses given) c there)) in (one.0, one.1, makes_truth (shown_at shown) one.0 (true_in one.0 one.2))
 
-  lit_of_node : (k : ℕ) (n : Node) → slice_get nodes k ≡ Some n → slice_get e.lits k ≡ Some (lit_at e.lits k)
-  lit_of_node k n h = let one = get_within e.lits k (omega (arith, all, slice_get_within nodes k n h)) in one.1 ∙ ap Some (sym (lit_here e.lits k one.0 one.1))
-
-  shaped : (k : ℕ) (n : Node) → slice_get nodes k ≡ Some n → IsShaped t k n
-  shaped k node_of.True h = gate_complete (shown_at shown) (lit_at e.lits) e.clauses models node_of.True (lit_at e.lits k) (encodes.gates k node_of.True _ h (lit_of_node k node_of.True h))
-  shaped k node_of.False h = gate_complete (shown_at shown) (lit_at e.lits) e.clauses models node_of.False (lit_at e.lits k) (encodes.gates k node_of.False _ h (lit_of_node k node_of.False h))
-  shaped k (node_of.Const number) h = tt
-  shaped k (node_of.Not a) h = gate_complete (shown_at shown) (lit_at e.lits) e.clauses models (node_of.Not a) (lit_at e.lits k) (encodes.gates k (node_of.Not a) _ h (lit_of_node k (node_of.Not a) h))
-  shaped k (node_of.And args) h = gate_complete (shown_at shown) (lit_at e.lits) e.clauses models (node_of.And args) (lit_at e.lits k) (encodes.gates k (node_of.And args) _ h (lit_of_node k (node_of.And args) h)) ∙ ap (shape_value (node_of.And args)) (map_map (truth (shown_at shown)) (lit_at e.lits) args)
-  shaped k (node_of.Or args) h = gate_complete (shown_at shown) (lit_at e.lits) e.clauses models (node_of.Or args) (lit_at e.lits k) (encodes.gates k (node_of.Or args) _ h (lit_of_node k (node_of.Or args) h)) ∙ ap (shape_value (node_of.Or args)) (map_map (truth (shown_at shown)) (lit_at e.lits) args)
-  shaped k (node_of.Xor args) h = gate_complete (shown_at shown) (lit_at e.lits) e.clauses models (node_of.Xor args) (lit_at e.lits k) (encodes.gates k (node_of.Xor args) _ h (lit_of_node k (node_of.Xor args) h)) ∙ ap (shape_value (node_of.Xor args)) (map_map (truth (shown_at shown)) (lit_at e.lits) args)
-  shaped k (node_of.Ite c a b) h = gate_complete (shown_at shown) (lit_at e.lits) e.clauses models (node_of.Ite c a b) (lit_at e.lits k) (encodes.gates k (node_of.Ite c a b) _ h (lit_of_node k (node_of.Ite c a b) h))
-  shaped k (node_of.Eq a b) h = gate_complete (shown_at shown) (lit_at e.lits) e.clauses models (node_of.Eq a b) (lit_at e.lits k) (encodes.gates k (node_of.Eq a b) _ h (lit_of_node k (node_of.Eq a b) h))
-  shaped k (node_of.Distinct args) h = gate_complete (shown_at shown) (lit_at e.lits) e.clauses models (node_of.Distinct args) (lit_at e.lits k) (encodes.gates k (node_of.Distinct args) _ h (lit_of_node k (node_of.Distinct args) h)) ∙ ap (shape_value (node_of.Distinct args)) (map_map (truth (shown_at shown)) (lit_at e.lits) args)
-
   t_obeys : Obeys nodes t
-  t_obeys = record {
-    shaped = shaped;
-    constants = λ j k number h g. ap (truth (shown_at shown)) (encodes.constants j k number _ _ h g (lit_of_node j _ h) (lit_of_node k _ g));
-  }
+  t_obeys = subst (λ ns. Obeys ns t) (take_all (length e.lits) nodes (omega (arith, all))) (shaped nodes e (shown_at shown) formed encodes models)
 
   -- each asserted and each assumed literal is true
   given_true : (l : Lit) → In l given → truth (shown_at shown) l ≡ true
@@ -238,7 +185,7 @@ module _ (nodes : List Node) (e : Encoded) (encodes : Encodes nodes e) (all : le
         ap truth_of (const_meaning nodes formed found k number h ∙ entry_value one.0 (k, t k) one.1 number h)
 
     meaning_told : (k : ℕ) → k < length nodes → truths_of nodes found k ≡ t k
-    meaning_told = told nodes formed (truths_of nodes found) t (obeys nodes formed found) t_obeys same_constants
+    meaning_told = told nodes (earlier nodes formed) (truths_of nodes found) t (obeys nodes formed found) t_obeys same_constants
 
     -- a problem's literal is true where the search's literal is
     makes_lit : (xs : List NodeLit) → All (λ (l : NodeLit). l.node < length nodes) xs → (ls : List Lit) → ls ≡ map (assumed_at e.lits) xs → ((l : Lit) → In l ls → truth (shown_at shown) l ≡ true)

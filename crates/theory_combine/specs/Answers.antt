@@ -2,13 +2,13 @@
 use Rattle.std.specs.Prelude.{◌≡◌, ℕ, ◌<◌, Bool, List, Some, All, length, slice_get}
 use Rattle.y_tree.specs.Values.{truth}
 use Rattle.y_tree.specs.Meaning.{Assignment, meaning}
-use Rattle.theory_combine.specs.declared.Node.{Node}
-use Rattle.theory_combine.specs.declared.Node.TheVariants as node_of
-use Rattle.theory_combine.specs.declared.NodeLit.{NodeLit}
+use Rattle.node_encoding.specs.declared.Node.{Node}
+use Rattle.node_encoding.specs.declared.Node.TheVariants as node_of
+use Rattle.node_encoding.specs.declared.NodeLit.{NodeLit}
 use Rattle.theory_combine.specs.declared.Verdict.{Verdict}
 use Rattle.theory_combine.specs.declared.Verdict.TheVariants.{Sat, Unsat, Unknown}
 use Rattle.theory_combine.specs.declared.Learned.{Learned}
-use Rattle.theory_combine.specs.Nodes.{tree_at, assignment_of, MakesAll, MakesAt}
+use Rattle.node_encoding.specs.Nodes.{tree_at, assignment_of, MakesAll, MakesAt}
 
 -- a value for each constant node, and under them each literal is true
 pub record IsSolution (nodes : List Node) (lits : List NodeLit) (values : List (ℕ × Bool)) : Type 0 where

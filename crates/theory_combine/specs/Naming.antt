@@ -1,12 +1,12 @@
 -- Variables by the nodes that they stand for, in a record.
 use Rattle.std.specs.Prelude.{◌≡◌, ℕ, ◌<◌, ◌≤◌, ◌+◌, ◌++◌, List, [], ◌∷◌, Option, Some, length, map, take, slice_get, unwrap_or}
 use Rattle.clause_logic.specs.declared.Lit.{Lit}
-use Rattle.theory_combine.specs.declared.Node.{Node}
-use Rattle.theory_combine.specs.declared.Node.TheVariants as node_of
-use Rattle.theory_combine.specs.declared.NodeLit.{NodeLit}
-use Rattle.theory_combine.specs.declared.encoding.Origin.{Origin}
-use Rattle.theory_combine.specs.declared.encoding.Origin.TheVariants as origin
-use Rattle.theory_combine.specs.Encoding.{arguments_at}
+use Rattle.node_encoding.specs.declared.Node.{Node}
+use Rattle.node_encoding.specs.declared.Node.TheVariants as node_of
+use Rattle.node_encoding.specs.declared.NodeLit.{NodeLit}
+use Rattle.node_encoding.specs.declared.encoding.Origin.{Origin}
+use Rattle.node_encoding.specs.declared.encoding.Origin.TheVariants as origin
+use Rattle.node_encoding.specs.Encoding.{arguments_at}
 use Rattle.theory_combine.specs.Learned.{clauses_of}
 
 -- the literal over the node that the variable has as its name

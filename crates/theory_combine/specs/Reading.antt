@@ -4,10 +4,10 @@ use Rattle.std.specs.List.{list_any}
 use Rattle.clause_logic.specs.declared.Lit.{Lit}
 use Rattle.clause_logic.specs.Clauses.{In}
 use Rattle.theory_combine.specs.declared.deciding.Marks.{Marks}
-use Rattle.theory_combine.specs.declared.Node.{Node}
-use Rattle.theory_combine.specs.declared.Node.TheVariants as node_of
-use Rattle.theory_combine.specs.Gates.{truth}
-use Rattle.theory_combine.specs.Encoding.{lit_at}
+use Rattle.node_encoding.specs.declared.Node.{Node}
+use Rattle.node_encoding.specs.declared.Node.TheVariants as node_of
+use Rattle.node_encoding.specs.Gates.{truth}
+use Rattle.node_encoding.specs.Encoding.{lit_at}
 
 -- the value of a variable, and false where it has none
 abbrev pub shown_at : List (Option Bool) → ℕ → Bool

@@ -1,32 +1,32 @@
 //! Deciding: the nodes become literals of a search, which takes the problem's literals as clauses
 //! of one literal or as assumptions. A literal is true in a model of the clauses just where its
 //! node is under the model's values of the constants, so that a model is a solution, and what can't
-//! be true together over literals can't over nodes (Tseitin, On the complexity of derivation in
-//! propositional calculus, 1968).
+//! be true together over literals can't over nodes.
 
 ghost use Rattle.std.specs.Prelude.{◌≡◌, ℕ, ◌<◌, ◌≤◌, ◌++◌, Bool, Option, List, Some, length, map, All, slice_get, IfOk, OnOk};
 ghost use Rattle.clause_logic.specs.declared.Lit.{Lit as LitOf};
 ghost use Rattle.clause_logic.specs.Clauses.{In};
-ghost use Rattle.theory_combine.specs.Nodes.{IsFormed};
+ghost use Rattle.node_encoding.specs.Nodes.{IsFormed};
 ghost use Rattle.theory_combine.specs.Answers.{IfSat, IfUnsat, IfUnknown, IsSolution, IsConflict, IsConflictUnder};
 ghost use Rattle.theory_combine.specs.Learned.{IsPastLimit};
-ghost use Rattle.theory_combine.specs.Encoding.{IsEncoding};
-ghost use Rattle.theory_combine.specs.Gates.{truth, adding, unit_clauses};
+ghost use Rattle.node_encoding.specs.Encoding.{IsEncoding};
+ghost use Rattle.node_encoding.specs.Gates.{truth, adding, unit_clauses};
 ghost use Rattle.theory_combine.specs.Reading.{shown_at, marked, Assigns, AreMarks, Names};
 
-use crate::encoding::Encoding;
 use crate::learning::record_of;
 use crate::theories::Theories;
 use crate::{Node, NodeLit, NodeValues, Places, Problem, Turns, Verdict};
 use clause_search::{Answer, Lit, Search};
 use indexmap::{IndexMap, IndexSet};
+use node_encoding::Encoding;
 use std::alloc::{AllocError, Global};
 
 /// Finds values of the constants under which every literal is true, or answers that there are none:
 /// then with the places of all literals. Under a limit of turns it may answer with what was learned,
 /// one clause more than the limit; without a limit it never does. A turn takes time in the size of
-/// the problem and of what was learned. There are at most 3^v turns for v variables, one for each
-/// node and at most one for each argument of a parity.
+/// the problem and of the learned clauses that are kept. These are at most 3^v at a time for v
+/// variables, one for each node and at most one for each argument of a parity; under a limit each
+/// is kept.
 pub fn decide(
     alloc: Global,
     problem: &Problem,
@@ -67,19 +67,22 @@ pub fn decide_assuming(
     ensures unknown { IfOk result (λ v. IfUnknown v (λ l. IsPastLimit problem.now (asserted.now ++ assumed.now) turns l.nodes l.clauses)) }
     ensures whole { turns ≡ Turns.Whole → IfOk result (λ v. IfUnknown v (λ l. ⊥)) }
 {
-    let nodes = problem.nodes.as_slice();
+    let nodes = problem.as_slice();
     let mut encoding = encode(alloc, nodes)?;
     let given = encoding.node_lits(asserted)?;
-    let open = encoding.node_lits(assumed)?;
+    let assumptions = encoding.node_lits(assumed)?;
     assert_all(&mut encoding.search, given.as_slice())?;
     let mut theories = Theories::new();
-    match encoding.search.solve(open.as_slice(), turns, &mut theories) {
+    match encoding
+        .search
+        .solve(assumptions.as_slice(), turns, &mut theories)
+    {
         Answer::Sat(values) => {
             let found = assign(alloc, nodes, encoding.lits.as_slice(), values.as_slice())?;
             Ok(Verdict::Sat(found))
         }
         Answer::Unsat(core) => {
-            let places = places_of(alloc, open.as_slice(), core.as_slice())?;
+            let places = places_of(alloc, assumptions.as_slice(), core.as_slice())?;
             Ok(Verdict::Unsat(places))
         }
         Answer::Unknown(clauses) => {

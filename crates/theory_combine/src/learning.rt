@@ -1,16 +1,18 @@
-//! What was learned, as clauses over nodes: the problem's, and parities of first arguments.
+//! What was learned, as clauses over nodes: the problem's, and parities of first arguments. Each
+//! variable of the search has a node whose literal it is; a renamed clause stays new, since unit
+//! propagation over the search's clauses finds all that propagation over the nodes does.
 
 ghost use Rattle.std.specs.Prelude.{◌≡◌, ℕ, ◌<◌, ◌≤◌, Bool, Option, List, Some, length, map, take, All, slice_get, IfOk};
 ghost use Rattle.clause_logic.specs.declared.Lit.{Lit as LitOf};
 ghost use Rattle.clause_logic.specs.Clauses.{In};
-ghost use Rattle.theory_combine.specs.declared.NodeLit.{NodeLit as NodeLitOf};
+ghost use Rattle.node_encoding.specs.declared.NodeLit.{NodeLit as NodeLitOf};
 ghost use Rattle.theory_combine.specs.Learned.{clauses_of, lit_of};
 ghost use Rattle.theory_combine.specs.Naming.{IsNamed, HaveParities, HasFirst, first_of, rename};
-ghost use Rattle.theory_combine.specs.Nodes.{IsFormed};
+ghost use Rattle.node_encoding.specs.Nodes.{IsFormed};
 
-use crate::encoding::Origin;
 use crate::{Learned, Node, NodeClause, NodeClauses, NodeLit, Places, Problem};
 use clause_search::{Clause, Lit};
+use node_encoding::Origin;
 use std::alloc::{AllocError, Global};
 
 /// The learned clauses over nodes.
@@ -65,7 +67,7 @@ fn copy_of(alloc: Global, problem: &Problem) -> Result<Problem, AllocError>
     ensures { IfOk result (λ p. p ≡ problem.now) }
 {
     let mut nodes = Problem::new(alloc);
-    for node in problem.nodes.as_slice() {
+    for node in problem.as_slice() {
         let copy = copy_node(alloc, node)?;
         nodes.add(copy)?;
     }

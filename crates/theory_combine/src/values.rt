@@ -5,7 +5,7 @@ ghost use Rattle.std.specs.List.{list_all, list_any};
 ghost use Rattle.y_tree.specs.Sorts.{boolean};
 ghost use Rattle.y_tree.specs.Values.{truth};
 ghost use Rattle.y_tree.specs.Meaning.{truth_of, apply, value_in, is_odd, are_distinct};
-ghost use Rattle.theory_combine.specs.Nodes.{op_of, arguments_of, number_of, number_at, constants_in, booleans};
+ghost use Rattle.node_encoding.specs.Nodes.{op_of, arguments_of, number_of, number_at, constants_in, booleans};
 ghost use Rattle.theory_combine.specs.Values.{values_at, AreValues, IsTable};
 
 use crate::{Node, NodeValues, Problem};
@@ -125,7 +125,7 @@ pub fn values_under(
     ensures each { IfOk result (λ v. length v.items ≡ length problem.now) }
     ensures right { IfOk result (λ v. AreValues problem.now (booleans given.now) v.items) }
 {
-    let nodes = problem.nodes.as_slice();
+    let nodes = problem.as_slice();
     let mut values: Vec<bool> = Vec::new(alloc);
     for k in 0..nodes.len() {
         let value = value_over(&nodes[k], values.as_slice(), given);

@@ -8,8 +8,8 @@ use Rattle.std.specs.declared.string.String.{String}
 use Rattle.std.specs.declared.alloc.Global.{Global}
 use Rattle.std.proofs.lemmas.Option.{same_Some}
 use Rattle.y_tree.specs.Tree.{Tree}
-use Rattle.theory_combine.specs.declared.Node.{Node}
-use Rattle.theory_combine.specs.Nodes.{tree_at}
+use Rattle.node_encoding.specs.declared.Node.{Node}
+use Rattle.node_encoding.specs.Nodes.{tree_at}
 use Rattle.yices_grammar.specs.declared.Place.{Place}
 use Rattle.yices_session.specs.declared.names.Binding.{Binding}
 use Rattle.yices_session.specs.declared.refusal.Stop.TheVariants as stop

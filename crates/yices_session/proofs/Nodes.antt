@@ -8,10 +8,10 @@ use Rattle.std.specs.Str.{bytes_eq}
 use Rattle.y_tree.specs.Sorts.{boolean}
 use Rattle.y_tree.specs.Tree.{constant, negation, conjunction, disjunction, Tree, Trees, node, trees, count}
 use Rattle.y_tree.specs.Tree as tree
-use Rattle.theory_combine.specs.declared.Node.{Node}
-use Rattle.theory_combine.specs.declared.Node.TheVariants as node_of
-use Rattle.theory_combine.specs.Nodes.{tree_at, op_of, arguments_of}
-use Rattle.theory_combine.proofs.TreeLaws.{tree_at_older, tree_at_new}
+use Rattle.node_encoding.specs.declared.Node.{Node}
+use Rattle.node_encoding.specs.declared.Node.TheVariants as node_of
+use Rattle.node_encoding.specs.Nodes.{tree_at, op_of, arguments_of}
+use Rattle.node_encoding.proofs.TreeLaws.{tree_at_older, tree_at_new}
 use Rattle.yices_grammar.specs.declared.Place.{Place}
 use Rattle.yices_grammar.specs.Grammar.{Expr, Exprs, true_word, false_word, name, operation, exprs}
 use Rattle.yices_text.specs.declared.command.Expr as code

@@ -11,10 +11,10 @@ use Rattle.y_tree.specs.Values.{Value}
 use Rattle.y_tree.specs.Tree.{constant, Tree, node}
 use Rattle.y_tree.specs.Tree as tree
 use Rattle.y_tree.specs.Meaning.{Assignment, Satisfies}
-use Rattle.theory_combine.specs.declared.Node.{Node}
-use Rattle.theory_combine.specs.declared.Node.TheVariants as node_of
-use Rattle.theory_combine.specs.declared.NodeLit.{NodeLit}
-use Rattle.theory_combine.specs.Nodes.{tree_at, number_of, number_at, entry_of, constants_in, booleans, MakesAll}
+use Rattle.node_encoding.specs.declared.Node.{Node}
+use Rattle.node_encoding.specs.declared.Node.TheVariants as node_of
+use Rattle.node_encoding.specs.declared.NodeLit.{NodeLit}
+use Rattle.node_encoding.specs.Nodes.{tree_at, number_of, number_at, entry_of, constants_in, booleans, MakesAll}
 use Rattle.theory_combine.specs.Answers.{IsSolution, IsConflict}
 use Rattle.yices_grammar.specs.Grammar.{Expr}
 use Rattle.yices_grammar.specs.declared.Place.{Place}
@@ -289,7 +289,7 @@ satisfies_all nodes s (l ∷ ls) h makes = (makes 0 l refl ∙ h.0.1, satisfies_
 makes_all : (nodes : List Node) (s : Assignment) (ls : List NodeLit) → AreFormulas ls nodes → Satisfies s (formulas_in nodes ls) → MakesAll nodes s ls
 makes_all nodes s [] h true_all i lit e = absurd (cc e)
 makes_all nodes s (l ∷ ls) h true_all zero lit e =
-    subst (λ (x : NodeLit). Rattle.theory_combine.specs.Nodes.Makes nodes s x) (same_Some l lit e) (true_all.0 ∙ sym h.0.1)
+    subst (λ (x : NodeLit). Rattle.node_encoding.specs.Nodes.Makes nodes s x) (same_Some l lit e) (true_all.0 ∙ sym h.0.1)
 makes_all nodes s (l ∷ ls) h true_all (suc i) lit e = makes_all nodes s ls h.1 true_all.1 i lit e
 
 pub nodes_all : (nodes : List Node) (ls : List NodeLit) → AreFormulas ls nodes → All (λ (l : NodeLit). l.node < length nodes) ls

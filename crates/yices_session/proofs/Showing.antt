@@ -7,8 +7,8 @@ use Rattle.std.proofs.lemmas.List.{at_drop_more, at_drop_all}
 use Rattle.std.proofs.lemmas.Option.{same_Some, slice_get_within, get_or_from_slice_get, slice_get-get_or}
 use Rattle.y_tree.specs.Values.{Value, truth}
 use Rattle.y_tree.specs.Meaning.{Assignment, meaning}
-use Rattle.theory_combine.specs.declared.Node.{Node}
-use Rattle.theory_combine.specs.Nodes.{tree_at}
+use Rattle.node_encoding.specs.declared.Node.{Node}
+use Rattle.node_encoding.specs.Nodes.{tree_at}
 use Rattle.theory_combine.specs.Values.{AreValues}
 use Rattle.yices_session.specs.declared.names.Binding.{Binding}
 use Rattle.yices_session.specs.Bindings.{name_list}

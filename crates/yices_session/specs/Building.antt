@@ -2,8 +2,8 @@
 use Rattle.std.specs.Prelude.{◌≡◌, ℕ, ◌<◌, List, [], ◌∷◌, ◌++◌, Result, Ok, length, map}
 use Rattle.std.specs.List.{AllByRecursion}
 use Rattle.y_tree.specs.Tree.{Tree, Trees, trees}
-use Rattle.theory_combine.specs.declared.Node.{Node}
-use Rattle.theory_combine.specs.Nodes.{tree_at}
+use Rattle.node_encoding.specs.declared.Node.{Node}
+use Rattle.node_encoding.specs.Nodes.{tree_at}
 use Rattle.yices_grammar.specs.declared.Place.{Place}
 use Rattle.yices_grammar.specs.Grammar.{Expr, Exprs}
 use Rattle.yices_session.specs.declared.refusal.Stop.{Stop}

@@ -3,10 +3,10 @@ use Rattle.std.specs.Prelude.{◌≡◌, ℕ, ◌<◌, ◌≤◌, Bool, true, fa
 use Rattle.std.specs.List.{AllByRecursion}
 use Rattle.std.specs.Option.{option_map}
 use Rattle.y_tree.specs.Tree.{Tree}
-use Rattle.theory_combine.specs.declared.Node.{Node}
-use Rattle.theory_combine.specs.declared.Node.TheVariants as node_of
-use Rattle.theory_combine.specs.declared.NodeLit.{NodeLit}
-use Rattle.theory_combine.specs.Nodes.{tree_at, booleans}
+use Rattle.node_encoding.specs.declared.Node.{Node}
+use Rattle.node_encoding.specs.declared.Node.TheVariants as node_of
+use Rattle.node_encoding.specs.declared.NodeLit.{NodeLit}
+use Rattle.node_encoding.specs.Nodes.{tree_at, booleans}
 use Rattle.yices_grammar.specs.Grammar.{Command}
 use Rattle.yices_session.specs.declared.refusal.Stop.{Stop}
 use Rattle.yices_session.specs.declared.refusal.Stop.TheVariants as stop

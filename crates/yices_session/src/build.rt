@@ -2,7 +2,7 @@
 
 ghost use Rattle.std.specs.Prelude.{◌≡◌, ℕ, ◌<◌, ◌++◌, ◌∷◌, [], List, Option, Some, None, true, length, map, IfOk, IfErr, OnOk, OnErr};
 ghost use Rattle.std.specs.List.{AllByRecursion};
-ghost use Rattle.theory_combine.specs.Nodes.{op_of, arguments_of, HasArity, IsFormed, Fits, tree_at};
+ghost use Rattle.node_encoding.specs.Nodes.{op_of, arguments_of, HasArity, IsFormed, Fits, tree_at};
 ghost use Rattle.yices_grammar.specs.Grammar.{exprs};
 ghost use Rattle.yices_text.specs.Plain.{plain};
 ghost use Rattle.yices_session.specs.State.{op_named, takes, known, tree_of, trees_of, tree_named};

@@ -4,7 +4,7 @@ ghost use Rattle.std.specs.Prelude.{◌≡◌, ◌<◌, ◌++◌, length, string
 ghost use Rattle.std.specs.Option.{option_map};
 ghost use Rattle.y_tree.specs.Values.{truth};
 ghost use Rattle.y_tree.specs.Texts.{value_text};
-ghost use Rattle.theory_combine.specs.Nodes.{tree_at, booleans};
+ghost use Rattle.node_encoding.specs.Nodes.{tree_at, booleans};
 ghost use Rattle.yices_text.specs.Plain.{plain};
 ghost use Rattle.yices_session.specs.Bindings.{name_list};
 ghost use Rattle.yices_session.specs.Building.{AreNamed, IsUnbuilt};

@@ -2,7 +2,7 @@ use Rattle.std.proofs.Common.{⊎_elim, ap, subst, arith}
 use Rattle.clause_logic.specs.declared.Lit.{Lit}
 use Rattle.clause_logic.specs.Clauses.{In}
 use Rattle.clause_search.specs.Content.{Stacked}
-use Rattle.theory_combine.proofs.Adding.{no_lit, in_get}
+use Rattle.node_encoding.proofs.Adding.{no_lit, in_get}
 use Rattle.theory_combine.proofs.deciding.assert_all.Goals as goal
 
 pub add_clause-requires : goal.add_clause-requires

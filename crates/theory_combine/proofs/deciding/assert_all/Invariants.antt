@@ -1,5 +1,5 @@
 use Rattle.std.proofs.Common.{◌≡◌, take}
-use Rattle.theory_combine.specs.Gates.{adding, unit_clauses}
+use Rattle.node_encoding.specs.Gates.{adding, unit_clauses}
 use Rattle.theory_combine.proofs.deciding.assert_all.Given as goal
 
 abbrev pub invariant-loop-lit : goal.invariant-loop-lit

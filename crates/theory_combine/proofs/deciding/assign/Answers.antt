@@ -1,8 +1,8 @@
 use Rattle.std.proofs.Common.{◌∙◌, length, Some, refl, ap, arith}
 use Rattle.std.proofs.lemmas.Option.{slice_get_read}
-use Rattle.theory_combine.specs.Gates.{truth}
+use Rattle.node_encoding.specs.Gates.{truth}
 use Rattle.theory_combine.specs.Reading.{shown_at}
-use Rattle.theory_combine.proofs.Placing.{read_lit}
+use Rattle.node_encoding.proofs.Placing.{read_lit}
 use Rattle.theory_combine.proofs.Readings.{assigns_const, assigns_other}
 use Rattle.theory_combine.proofs.deciding.assign.Goals as goal
 use Rattle.theory_combine.proofs.deciding.assign.Goals.{in-Const+in_ok-push, in_default}

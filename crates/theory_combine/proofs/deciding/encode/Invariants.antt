@@ -1,5 +1,5 @@
 use Rattle.std.proofs.Common.{◌≡◌, length}
-use Rattle.theory_combine.specs.Encoding.{IsEncoding, AreConstants}
+use Rattle.node_encoding.specs.Encoding.{IsEncoding, AreConstants}
 use Rattle.theory_combine.proofs.deciding.encode.Given as goal
 
 abbrev pub invariant-loop-k : goal.invariant-loop-k

@@ -1,8 +1,8 @@
 use Rattle.std.proofs.Common.{◌+◌, sym, subst, take, get_or, arith}
 use Rattle.std.proofs.lemmas.List.{take_all}
 use Rattle.theory_combine.specs.Reading.{marked, AreMarks}
-use Rattle.theory_combine.proofs.Adding.{no_lit}
-use Rattle.theory_combine.proofs.Placing.{slice_get_here}
+use Rattle.node_encoding.proofs.Adding.{no_lit}
+use Rattle.node_encoding.proofs.Placing.{slice_get_here}
 use Rattle.theory_combine.proofs.Marking.{marks_more, by_sign, positive_kept, negative_kept, positive_grown, negative_grown, signs_none, marks_none}
 use Rattle.theory_combine.proofs.deciding.marks_of.Goals as goal
 use Rattle.theory_combine.proofs.deciding.marks_of.Goals.{then-lit+in_ok-insert, else-lit+in_ok-insert-2}

@@ -1,6 +1,6 @@
 use Rattle.std.proofs.Common.{◌∙◌, ◌++◌, ◌∷◌, [], length, refl, sym, ap, arith, append-nil}
 use Rattle.std.proofs.lemmas.List.{take_all}
-use Rattle.theory_combine.specs.declared.encoding.Origin.TheVariants as origin
+use Rattle.node_encoding.specs.declared.encoding.Origin.TheVariants as origin
 use Rattle.theory_combine.proofs.Naming.{named_more, longer_so_far, length_names}
 use Rattle.theory_combine.proofs.Readings.{place_is}
 use Rattle.theory_combine.proofs.Records.{has_first, first_fits}

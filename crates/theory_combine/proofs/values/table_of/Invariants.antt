@@ -1,5 +1,5 @@
 use Rattle.std.proofs.Common.{drop}
-use Rattle.theory_combine.specs.Nodes.{constants_in}
+use Rattle.node_encoding.specs.Nodes.{constants_in}
 use Rattle.theory_combine.specs.Values.{IsTable}
 use Rattle.theory_combine.proofs.values.table_of.Given as goal
 

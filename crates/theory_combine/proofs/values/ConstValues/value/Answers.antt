@@ -2,7 +2,7 @@ use Rattle.std.proofs.Common.{◌≡◌, Some, None, subst}
 use Rattle.y_tree.specs.Sorts.{boolean}
 use Rattle.y_tree.specs.Values.{truth}
 use Rattle.y_tree.specs.Meaning.{value_in}
-use Rattle.theory_combine.specs.Nodes.{booleans}
+use Rattle.node_encoding.specs.Nodes.{booleans}
 use Rattle.theory_combine.proofs.Tables.{value_found}
 use Rattle.theory_combine.proofs.values.ConstValues.value.Goals as goal
 

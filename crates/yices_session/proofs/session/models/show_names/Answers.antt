@@ -2,7 +2,7 @@ use Rattle.std.proofs.Common.{◌<◌, ◌∙◌, ◌++◌, ap, sym, arith, leng
 use Rattle.std.specs.declared.string.String.{String}
 use Rattle.std.specs.declared.alloc.Global.{Global}
 use Rattle.y_tree.specs.Values.{truth}
-use Rattle.theory_combine.specs.Nodes.{booleans}
+use Rattle.node_encoding.specs.Nodes.{booleans}
 use Rattle.yices_session.specs.declared.names.Binding.{Binding}
 use Rattle.yices_session.specs.Replies.{value_line}
 use Rattle.yices_session.proofs.Showing.{named_at, value_at, line_skipped, line_written}

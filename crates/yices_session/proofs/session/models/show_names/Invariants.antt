@@ -1,5 +1,5 @@
 use Rattle.std.proofs.Common.{◌≡◌, ◌++◌, drop, string_bytes}
-use Rattle.theory_combine.specs.Nodes.{booleans}
+use Rattle.node_encoding.specs.Nodes.{booleans}
 use Rattle.yices_session.specs.Bindings.{name_list}
 use Rattle.yices_session.specs.Held.{names_in}
 use Rattle.yices_session.specs.Replies.{name_lines}

@@ -1,0 +1,15 @@
+pub mod Gets
+pub mod TreeLaws
+pub mod Combining
+pub mod Listing
+pub mod Parities
+pub mod Chains
+pub mod Lifting
+pub mod GateLifts
+pub mod Gating
+pub mod Meanings
+pub mod Steps
+pub mod Growing
+pub mod Adding
+pub mod Placing
+pub mod Completing

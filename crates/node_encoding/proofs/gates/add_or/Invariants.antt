@@ -1,0 +1,7 @@
+use Rattle.std.proofs.Common.{◌≡◌, ◌∷◌, [], map, take}
+use Rattle.clause_logic.specs.Clauses.{opposite}
+use Rattle.node_encoding.specs.Gates.{adding}
+use Rattle.node_encoding.proofs.gates.add_or.Given as goal
+
+abbrev pub invariant-loop-arg : goal.invariant-loop-arg
+invariant-loop-arg l = l.search ≡ adding l.initial.search (map (λ a. l.gate ∷ opposite a ∷ []) (take l.arg-index l.args))
