@@ -1,11 +1,12 @@
 -- The newest meaning of a name.
-use Rattle.std.proofs.Common.{◌≡◌, ◌∙◌, ◌-◌, ◌<◌, ◌≤◌, get_or, ℕ, zero, suc, Bool, true, false, cond, if◌then◌else◌, List, [], ◌∷◌, Option, Some, None, is_some, length, map, drop, refl, sym, ap, subst, arith}
+use Rattle.std.proofs.Common.{◌≡◌, ◌∙◌, ◌-◌, ◌<◌, ◌≤◌, get_or, ℕ, zero, suc, Bool, true, false, cond, if◌then◌else◌, List, [], ◌∷◌, Option, Some, None, is_some, length, map, drop, refl, sym, ap, arith}
 use Rattle.std.specs.Prelude.{slice_get, remove, string_bytes}
 use Rattle.std.specs.Option.{option_map}
 use Rattle.std.specs.List.{filter}
 use Rattle.std.specs.Str.{bytes_eq}
 use Rattle.std.proofs.lemmas.Option.{same_Some, slice_get_read, slice_get-map}
 use Rattle.name_stacks.specs.Names.{newest, without_newest, oldest_name, or_else, IsNewest}
+use Rattle.name_stacks.specs.Heads.{shown}
 use Rattle.name_stacks.specs.declared.names.Pair.{Pair}
 
 module _ {H : Type 0} (name : List ℕ) where
@@ -38,25 +39,28 @@ module _ {H : Type 0} (name : List ℕ) where
   drop_end (q ∷ ps) (suc n) h = drop_end ps n (omega (arith, h))
 
 -- the same over the pairs as they are kept
-module _ {H : Type 0} (name : List ℕ) (items : List (Pair H)) (w : List (List ℕ × H)) (view : map (λ (p : Pair H). (string_bytes p.name, p.of)) items ≡ w) where
-  abbrev shown : List (List ℕ × H)
-  shown = map (λ (p : Pair H). (string_bytes p.name, p.of)) items
-
-  module _ (at : ℕ) (positive : 0 < at) (within : at ≤ length items) (p : Pair H) (reads : p ≡ get_or items (at - 1) p) (rest : newest name (drop at shown) ≡ None) where
-    stands : slice_get shown (at - 1) ≡ Some (string_bytes p.name, p.of)
+module _ {H : Type 0} (name : List ℕ) (items : List (Pair H)) where
+  module _ (at : ℕ) (positive : 0 < at) (within : at ≤ length items) (p : Pair H) (reads : p ≡ get_or items (at - 1) p) (rest : newest name (drop at (shown items)) ≡ None) where
+    stands : slice_get (shown items) (at - 1) ≡ Some (string_bytes p.name, p.of)
     stands =
         slice_get-map (λ (q : Pair H). (string_bytes q.name, q.of)) items (at - 1) ∙ ap (option_map (λ (q : Pair H). (string_bytes q.name, q.of))) (slice_get_read items (length items) (at - 1) p refl (omega (arith, positive, within)) reads)
 
-    behind : newest name (drop (suc (at - 1)) shown) ≡ None
-    behind = let e : suc (at - 1) ≡ at = omega (arith, positive) in ap (λ n. newest name (drop n shown)) e ∙ rest
+    behind : newest name (drop (suc (at - 1)) (shown items)) ≡ None
+    behind =
+        let e : suc (at - 1) ≡ at = omega (arith, positive) in ap (λ n. newest name (drop n (shown items))) e ∙ rest
 
-    pub last_found : bytes_eq (string_bytes p.name) name ≡ true → IsNewest name w (at - 1)
+    pub last_found : bytes_eq (string_bytes p.name) name ≡ true → IsNewest name (shown items) (at - 1)
     last_found same =
-        let found = newest_found name shown (at - 1) (string_bytes p.name, p.of) stands same behind in
-        subst (λ z. IsNewest name z (at - 1)) view (record { pair = (string_bytes p.name, p.of); at = stands; newest = found.0; without = found.1 })
+        let found = newest_found name (shown items) (at - 1) (string_bytes p.name, p.of) stands same behind in record {
+          pair = (string_bytes p.name, p.of);
+          at = stands;
+          newest = found.0;
+          without = found.1;
+        }
 
-    pub last_step : bytes_eq (string_bytes p.name) name ≡ false → newest name (drop (at - 1) shown) ≡ None
-    last_step differs = newest_step name shown (at - 1) (string_bytes p.name, p.of) stands differs behind
+    pub last_step : bytes_eq (string_bytes p.name) name ≡ false → newest name (drop (at - 1) (shown items)) ≡ None
+    last_step differs =
+        newest_step name (shown items) (at - 1) (string_bytes p.name, p.of) stands differs behind
 
 -- without a meaning nothing is taken away
 pub unnamed : {H : Type 0} (name : List ℕ) (ps : List (List ℕ × H)) → newest name ps ≡ None → ps ≡ without_newest name ps

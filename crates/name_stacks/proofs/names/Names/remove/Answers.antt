@@ -1,12 +1,18 @@
-use Rattle.std.proofs.Common.{◌∙◌, sym, ap, refl, map}
-use Rattle.std.specs.Prelude.{string_bytes, remove}
-use Rattle.name_stacks.specs.declared.names.Pair.{Pair}
-use Rattle.name_stacks.proofs.Naming.{unnamed, map_remove}
+use Rattle.std.proofs.Common.{rules, ◌≡◌, ◌∙◌, sym, subst, is_some, false}
+use Rattle.name_stacks.specs.Names.{newest}
+use Rattle.name_stacks.specs.Heads.{shown, PutsHead}
+use Rattle.name_stacks.proofs.Naming.{unnamed}
+use Rattle.name_stacks.proofs.Heading.{is_none, removed, unchanged}
 use Rattle.name_stacks.proofs.names.Names.remove.Goals as goal
 
-pub returns-in-Some-clause-pairs : goal.returns-in-Some-clause-pairs
-returns-in-Some-clause-pairs g c =
-    ap (map (λ (p : Pair g.row.H.Denot). (string_bytes p.name, p.of))) c.remove.ensures.items ∙ map_remove (λ (p : Pair g.row.H.Denot). (string_bytes p.name, p.of)) c.self.inside.pairs.items c.in-Some.at ∙ ap (λ w. remove w c.in-Some.at) c.self.view_is ∙ sym c.in-Some.ensures.found.without
+pub invariant_of-self-inside : goal.invariant_of-self-inside
+invariant_of-self-inside g c = let absent : is_some (newest c.args.name.now (shown c.self.inside.pairs.items)) ≡ false = search rules in (
+  unchanged c.self.inside.heads (shown c.self.inside.pairs.items) (shown c.take_newest.new.pairs.items) c.self.inside.newest_at_head (c.take_newest.ensures.pairs ∙ sym (unnamed c.args.name.now (shown c.self.inside.pairs.items) (is_none _ absent))),
+  tt,
+)
 
-pub returns-in-None-clause-pairs : goal.returns-in-None-clause-pairs
-returns-in-None-clause-pairs g c = unnamed c.args.name.now c.args.self.now (c.in-None.ensures.none refl)
+pub invariant_of-self-inside-2 : goal.invariant_of-self-inside-2
+invariant_of-self-inside-2 g c = (
+  removed c.self.inside.heads c.lower_head.new.heads (shown c.self.inside.pairs.items) (shown c.take_newest.new.pairs.items) c.args.name.now c.self.inside.newest_at_head (subst (λ z. PutsHead c.self.inside.heads c.lower_head.new.heads c.args.name.now (newest c.args.name.now (shown z))) c.deref.ensures.value c.lower_head.ensures) c.take_newest.ensures.pairs,
+  tt,
+)
