@@ -14,7 +14,8 @@ use Rattle.term_shapes.specs.declared.shapes.Shape.{Shape}
 use Rattle.term_shapes.specs.declared.shapes.Shape.TheVariants as shape
 use Rattle.term_shapes.specs.Shapes.{args_of}
 use Rattle.term_table.specs.World.{World}
-use Rattle.term_table.specs.Checking.{operator, HasSort, HaveSorts, takes_number}
+use Rattle.shape_rules.specs.Rules.{operator}
+use Rattle.term_table.specs.Checking.{HasSort, HaveSorts, takes_number}
 use Rattle.term_table.proofs.Sorting.{have_length}
 use Rattle.term_table.proofs.Rows.{call_count, update_count}
 

@@ -11,11 +11,12 @@ use Rattle.stamped_slots.specs.Regular.{IsAt, IsRegular}
 use Rattle.term_shapes.specs.declared.handles.TypeId.{TypeId}
 use Rattle.term_shapes.specs.declared.shapes.TypeShape.{TypeShape}
 use Rattle.term_shapes.specs.declared.shapes.TypeShape.TheVariants as type
-use Rattle.term_table.specs.declared.errors.TableError.{TableError}
-use Rattle.term_table.specs.declared.errors.TableError.TheVariants as error
+use Rattle.shape_rules.specs.declared.errors.TableError.{TableError}
+use Rattle.shape_rules.specs.declared.errors.TableError.TheVariants as error
 use Rattle.term_table.specs.World.{World, type_shape_at, HasTypeShape, KeepsType, KeepsTypes, IsTable}
-use Rattle.term_table.specs.Functions.{IsFirstWith, NoneHas, HasAt, IsDeadType, IsFunctionType, is_arity, is_function, ArePartTypes, IsFunctionShape, RefusesType, RefusesFunction}
-use Rattle.term_table.proofs.Finding.{held_slot}
+use Rattle.shape_rules.specs.Rules.{is_arity, is_function}
+use Rattle.term_table.specs.Functions.{IsFirstWith, NoneHas, HasAt, IsDeadType, IsFunctionType, ArePartTypes, IsFunctionShape, RefusesType, RefusesFunction}
+use Rattle.term_table.proofs.Held.{held_slot}
 use Rattle.term_table.proofs.Atoms.{adds_type_sound, type_lasts, here_type}
 
 module _ {X : Type 0} (P : X → Type 0) (xs : List X) where
@@ -126,9 +127,9 @@ module _ (old new : World) (t : TypeId) (s : TypeShape) (table : IsTable old) (a
   no_number : (is : IsFunctionShape old s) (n : ℕ) → s ≡ type.Free n → n < new.kinds
   no_number is n e = absurd (cc (sym is.is ∙ e))
 
-  pub function_sound : IsFunctionShape old s → ((u : TypeId) → HasTypeShape old u s → ⊥) → IsRegular new.types → IsTable new
-  function_sound is absent regular =
-      adds_type_sound old new t s table adds terms constants variables kinds absent regular (function is.domain is.result) (keeps_function is) is.within (no_number is)
+  pub function_sound : IsFunctionShape old s → ((u : TypeId) → HasTypeShape old u s → ⊥) → IsRegular new.types → new.kinds ≤ old.kinds + 1 → new.term_names ≡ old.term_names → new.type_names ≡ old.type_names → IsTable new
+  function_sound is absent regular more term_names type_names =
+      adds_type_sound old new t s table adds terms constants variables kinds absent regular (function is.domain is.result) (keeps_function is) is.within (no_number is) more term_names type_names
 
 -- a type as the slots tell
 pub found_type : (eq : TypeShape → TypeShape → Bool) → ((a b : TypeShape) → Decides (eq a b) (a ≡ b)) → (w : World) (x : TypeShape) (i n : ℕ) → IsAt eq w.types x i → n ≡ stamp_at w.types i → HasTypeShape w (record { slot = i; stamp = n }) x

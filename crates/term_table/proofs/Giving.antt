@@ -21,8 +21,8 @@ use Rattle.term_shapes.specs.declared.shapes.TypeShape.TheVariants as type
 use Rattle.term_shapes.specs.Shapes.{args_of}
 use Rattle.fraction128.specs.declared.number.Frac.{Frac}
 use Rattle.term_table.specs.World.{World, HasTypeShape, KeepsType, IsTable}
-use Rattle.term_table.specs.Changes.{IsOperator}
-use Rattle.term_table.specs.Checking.{operator, HasSort, HaveSorts}
+use Rattle.shape_rules.specs.Rules.{IsOperator, operator}
+use Rattle.term_table.specs.Checking.{HasSort, HaveSorts}
 use Rattle.term_table.proofs.Sorting.{width_within}
 
 -- a sort that is there only if the test holds

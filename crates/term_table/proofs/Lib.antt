@@ -14,3 +14,6 @@ pub mod Arities
 pub mod Standing
 pub mod Domains
 pub mod PlainSorts
+pub mod Held
+pub mod Handles
+pub mod Meanings

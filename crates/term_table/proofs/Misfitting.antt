@@ -17,11 +17,11 @@ use Rattle.term_shapes.specs.declared.handles.TypeId.{TypeId}
 use Rattle.term_shapes.specs.declared.shapes.Shape.{Shape}
 use Rattle.term_shapes.specs.declared.shapes.Shape.TheVariants as shape
 use Rattle.term_shapes.specs.Shapes.{args_of}
-use Rattle.term_table.specs.declared.errors.ShapeError.{ShapeError}
-use Rattle.term_table.specs.declared.errors.ShapeError.TheVariants as refusal
+use Rattle.shape_rules.specs.declared.errors.ShapeError.{ShapeError}
+use Rattle.shape_rules.specs.declared.errors.ShapeError.TheVariants as refusal
 use Rattle.term_table.specs.World.{World, node_at, KeepsType}
-use Rattle.term_table.specs.Changes.{IsOperator}
-use Rattle.term_table.specs.Checking.{operator, HaveSorts, AreLive, IsFirstDead, IsDeadAt, ToldAt, ToldBy, IsTold, IsShape, IsMisfitting, RefusesShape, AllFit, AllWide, AllVectors}
+use Rattle.shape_rules.specs.Rules.{IsOperator, operator, TellsNumber, NumberToldBy}
+use Rattle.term_table.specs.Checking.{HaveSorts, AreLive, IsFirstDead, IsDeadAt, Tells, ToldAt, ToldBy, IsTold, IsShape, IsMisfitting, RefusesShape, AllFit, AllWide, AllVectors}
 use Rattle.term_table.proofs.Sorting.{have_length}
 
 module _ (w : World) (ts : List Term) where
@@ -251,3 +251,19 @@ refuses w s refusal.BadRange m = m
 pub none_own : (w : World) (o : Option Misfit) → ToldBy w o None → o ≡ None
 none_own w None h = refl
 none_own w (Some m) h = absurd h
+
+-- a misfit of a number, told by itself, is told in the table
+tells_number : (w : World) (m : Misfit) (e : ShapeError) → TellsNumber m e → Tells w m e
+tells_number w m (refusal.BadWidth n) h = h
+tells_number w m refusal.BadRange h = h
+tells_number w m refusal.Atom h = h
+tells_number w m (refusal.DeadTerm place) h = h
+tells_number w m (refusal.BadArity n) h = absurd h
+tells_number w m (refusal.WrongType place want found) h = absurd h
+tells_number w m (refusal.WidthsDiffer place left right) h = absurd h
+
+pub number_told : (w : World) (m : Option Misfit) (e : Option ShapeError) → NumberToldBy m e → ToldBy w m e
+number_told w None None h = tt
+number_told w (Some m) (Some e) h = tells_number w m e h
+number_told w None (Some e) h = absurd h
+number_told w (Some m) None h = absurd h

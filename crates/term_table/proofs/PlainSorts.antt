@@ -12,7 +12,7 @@ use Rattle.term_shapes.specs.declared.handles.TypeId.{TypeId}
 use Rattle.term_shapes.specs.declared.shapes.TypeShape.{TypeShape}
 use Rattle.term_shapes.specs.declared.shapes.TypeShape.TheVariants as type
 use Rattle.term_table.specs.World.{World, type_shape_at, HasTypeShape, KeepsType, KeepsTypes, IsTable}
-use Rattle.term_table.specs.Functions.{simple_of}
+use Rattle.shape_rules.specs.Rules.{simple_of}
 
 -- a simple sort is that of its type's shape
 pub simple_kept : (w : World) (t : TypeId) (s : TypeShape) (k : sort.Sort) → HasTypeShape w t s → KeepsType w t k → is_simple k ≡ true → simple_of s ≡ k

@@ -7,30 +7,23 @@ use Rattle.std.proofs.lemmas.Bool.{false≢true, eq-eqb, eqb-true, le-leb}
 use Rattle.y_tree.specs.Sorts.{Sort, Sorts, boolean, real, bit_vector, uninterpreted, function, count, same_sort}
 use Rattle.y_tree.specs.Sorts as sort
 use Rattle.y_tree.specs.Tree.{choice, equality}
-use Rattle.y_tree.specs.Typing.{BvForm, one, two, test, some, joined}
-use Rattle.y_tree.specs.Misfits.{Wanted, a_bit_vector, a_function, of_sort, fits, width, wanted_sorts, function_row, bv_row, row_of, count_fits}
+use Rattle.y_tree.specs.Misfits.{Wanted, a_function, of_sort, fits, width, wanted_sorts, function_row, row_of, count_fits}
 use Rattle.y_tree.specs.Laws.{wanted_behind}
 use Rattle.y_tree.proofs.Sorted.{sort_same, sort_alike}
 use Rattle.term_shapes.specs.declared.handles.Term.{Term}
 use Rattle.term_shapes.specs.declared.handles.TypeId.{TypeId}
 use Rattle.term_shapes.specs.declared.shapes.TypeShape.{TypeShape}
 use Rattle.term_shapes.specs.declared.shapes.TypeShape.TheVariants as type
-use Rattle.term_table.specs.declared.errors.Wanted.{Wanted as Want}
-use Rattle.term_table.specs.declared.errors.Wanted.TheVariants as wanted
+use Rattle.shape_rules.specs.declared.errors.Wanted.{Wanted as Want}
+use Rattle.shape_rules.specs.declared.errors.Wanted.TheVariants as wanted
 use Rattle.term_table.specs.World.{World, HasType, HasTypeShape, type_shape_at, KeepsType, KeepsTypes, IsTable}
-use Rattle.term_table.specs.Checking.{HasSort, HaveSorts, Wants, WantsHere, IsKind, is_kind, shape_width, shape_takes, shape_result, wanted_by, type_or, takes_number}
+use Rattle.shape_rules.specs.Rules.{is_kind, shape_width, shape_takes, shape_result, wanted_by, type_or}
+use Rattle.term_table.specs.Checking.{HasSort, HaveSorts, Wants, WantsHere, IsKind, takes_number}
+use Rattle.shape_rules.proofs.Vectors.{only_one}
 use Rattle.term_table.proofs.Sorting.{one_kept, have_length}
 use Rattle.term_table.proofs.Keeping.{one_sort}
 
 -- items of short lists
-pub only_one : {X : Type 0} (x y : X) (i : ℕ) → slice_get (x ∷ []) i ≡ Some y → y ≡ x
-only_one x y zero h = sym (same_Some x y h)
-only_one x y (suc i) h = absurd (cc h)
-
-pub one_of_two : {X : Type 0} (x y : X) (i : ℕ) → slice_get (x ∷ x ∷ []) i ≡ Some y → y ≡ x
-one_of_two x y zero h = sym (same_Some x y h)
-one_of_two x y (suc i) h = only_one x y i h
-
 pub one_of_many : {X Y : Type 0} (x y : X) (items : List Y) (i : ℕ) → slice_get (map (λ z. x) items) i ≡ Some y → y ≡ x
 one_of_many x y [] i h = absurd (cc h)
 one_of_many x y (z ∷ items) zero h = sym (same_Some x y h)
@@ -131,14 +124,6 @@ same_fits w table of found b decides v k (l, keeps, e) kept = by b (fits v k) re
     by false true f g =
         let same : l ≡ k = sort_same l k (sym (ap (λ z. fits z k) e) ∙ g) in
         absurd (false≢true (sym f ∙ decides.1 (one_sort w table.one_type l of found keeps (subst (KeepsType w found) (sym same) kept))))
-
--- rows of operators on bit-vectors want bit-vectors
-pub wants_vectors : (f : BvForm) (v : Wanted) (i : ℕ) → wanted_behind (bv_row f) i ≡ Some v → v ≡ a_bit_vector
-wants_vectors one v i h = only_one a_bit_vector v i h
-wants_vectors two v i h = one_of_two a_bit_vector v i h
-wants_vectors test v i h = one_of_two a_bit_vector v i h
-wants_vectors some v i h = sym (same_Some a_bit_vector v h)
-wants_vectors joined v i h = sym (same_Some a_bit_vector v h)
 
 module _ (w : World) where
   -- the sorts of arguments one by one

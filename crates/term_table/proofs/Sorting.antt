@@ -10,7 +10,7 @@ use Rattle.term_shapes.specs.declared.handles.Term.{Term}
 use Rattle.term_shapes.specs.declared.handles.TypeId.{TypeId}
 use Rattle.term_shapes.specs.declared.shapes.TypeShape.TheVariants as type
 use Rattle.term_shapes.specs.declared.shapes.Node.{Node}
-use Rattle.term_table.specs.declared.errors.Wanted.{Wanted}
+use Rattle.shape_rules.specs.declared.errors.Wanted.{Wanted}
 use Rattle.term_table.specs.World.{World, node_at, type_at, HasType, KeepsType, KeepsTypes, IsTable}
 use Rattle.term_table.specs.Checking.{HasSort, HaveSorts, AreLive, IsKept, WantsHere}
 

@@ -13,8 +13,9 @@ use Rattle.term_shapes.specs.declared.shapes.Shape.TheVariants as shape
 use Rattle.term_shapes.specs.declared.shapes.Node.{Node}
 use Rattle.term_shapes.specs.Shapes.{args_of, types_of}
 use Rattle.term_table.specs.World.{World, node_at, HasShape, KeepsType, AllKeep, Keeps, KeepsAll, IsTable}
-use Rattle.term_table.specs.Changes.{IsTyped, IsOperator, AddsTerm}
-use Rattle.term_table.specs.Checking.{operator, HasSort, HaveSorts, IsShape}
+use Rattle.shape_rules.specs.Rules.{IsOperator, operator}
+use Rattle.term_table.specs.Changes.{IsTyped, AddsTerm}
+use Rattle.term_table.specs.Checking.{HasSort, HaveSorts, IsShape}
 use Rattle.term_table.proofs.Sorting.{one_kept}
 use Rattle.term_table.proofs.Keeping.{one_sort}
 use Rattle.term_table.proofs.Lasting.{adding_keeps}

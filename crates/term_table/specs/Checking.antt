@@ -1,36 +1,22 @@
 -- Which shapes are those of terms, and why others are not: the operator at the sorts that the arguments' types stand for.
-use Rattle.std.specs.Prelude.{◌≡◌, ℕ, ◌+◌, ◌<◌, List, [], ◌∷◌, Option, Some, None, IsSome, slice_get, length, Bool, true, false, ◌==◌}
-use Rattle.y_tree.specs.Sorts.{Sort, boolean, bit_vector, function, count}
-use Rattle.y_tree.specs.Tree.{Op}
-use Rattle.y_tree.specs.Typing.{typed, BvForm, one, two, test, some, joined}
+use Rattle.std.specs.Prelude.{◌≡◌, ℕ, ◌+◌, ◌<◌, List, [], ◌∷◌, Option, Some, None, IsSome, slice_get, Bool, true, false, ◌==◌}
+use Rattle.y_tree.specs.Sorts.{Sort, bit_vector, function, count}
+use Rattle.y_tree.specs.Typing.{typed}
 use Rattle.y_tree.specs.Misfits.{Misfit, bad_arity, wrong_type, widths_differ, bad_width, bad_range, misfit_of, Row, fits, is_bit_vector, a_boolean, a_real, a_bit_vector, a_function, of_sort, anything}
 use Rattle.y_tree.specs.Laws.{wanted_behind, IsMisfit}
 use Rattle.y_tree.specs.Misfits as misfit
 use Rattle.term_shapes.specs.declared.handles.Term.{Term}
 use Rattle.term_shapes.specs.declared.handles.TypeId.{TypeId}
 use Rattle.term_shapes.specs.declared.shapes.Shape.{Shape}
-use Rattle.term_shapes.specs.declared.shapes.Shape.TheVariants as shape
-use Rattle.term_shapes.specs.declared.shapes.TypeShape.{TypeShape}
-use Rattle.term_shapes.specs.declared.shapes.TypeShape.TheVariants as type
-use Rattle.term_shapes.specs.Shapes.{op_of, args_of}
-use Rattle.term_table.specs.declared.errors.Wanted.{Wanted}
-use Rattle.term_table.specs.declared.errors.Wanted.TheVariants as wanted
-use Rattle.term_table.specs.declared.errors.ShapeError.{ShapeError}
-use Rattle.term_table.specs.declared.errors.ShapeError.TheVariants as refusal
-use Rattle.term_table.specs.declared.forms.Form.{Form}
-use Rattle.term_table.specs.declared.forms.Form.TheVariants as form
+use Rattle.term_shapes.specs.Shapes.{args_of}
+use Rattle.shape_rules.specs.declared.errors.Wanted.{Wanted}
+use Rattle.shape_rules.specs.declared.errors.Wanted.TheVariants as wanted
+use Rattle.shape_rules.specs.declared.errors.ShapeError.{ShapeError}
+use Rattle.shape_rules.specs.declared.errors.ShapeError.TheVariants as refusal
 use Rattle.term_table.specs.World.{World, node_at, HasType, KeepsType}
-use Rattle.term_table.specs.Changes.{IsOperator, AddsTerm}
-
--- a constant or a variable
-abbrev pub IsAtom : Shape → Type 0
-IsAtom (shape.Const n of) = Unit {0}
-IsAtom (shape.Var n of) = Unit {0}
-IsAtom _ = ⊥
-
--- the operator of a shape that is neither
-abbrev pub operator : Shape → Op
-operator s = op_of s boolean
+use Rattle.shape_rules.specs.Rules.{IsOperator}
+pub use Rattle.shape_rules.specs.Rules.{IsAtom, operator}
+use Rattle.term_table.specs.Changes.{AddsTerm}
 
 -- the term is live, and its type stands for that sort
 abbrev pub HasSort : World → Term → Sort → Type 0
@@ -64,43 +50,10 @@ Wants w wanted.AnyBv v = v ≡ a_bit_vector
 Wants w wanted.AnyFun v = v ≡ a_function
 Wants w (wanted.Same t) v = (k : Sort) × KeepsType w t k × (v ≡ of_sort k)
 
--- a type of that shape is of the kind that is wanted
-abbrev pub is_kind : Wanted → TypeShape → Bool
-is_kind wanted.Bool type.Bool = true
-is_kind wanted.Real type.Real = true
-is_kind wanted.AnyBv (type.Bv n) = true
-is_kind wanted.AnyFun (type.Fun ts r) = true
-is_kind _ _ = false
-
 -- a kind of types is wanted, and not one type
 abbrev pub IsKind : Wanted → Type 0
 IsKind (wanted.Same t) = ⊥
 IsKind _ = Unit {0}
-
--- the width of a type of bit-vectors
-abbrev pub shape_width : TypeShape → ℕ
-shape_width (type.Bv n) = n
-shape_width _ = 0
-
--- the type of what a function gives, and that of truth values for what is none
-abbrev pub shape_result : TypeShape → TypeId
-shape_result (type.Fun ts r) = r
-shape_result _ = record { slot = 0; stamp = 0 }
-
--- a function takes so many arguments, and what is none takes any
-abbrev pub shape_takes : TypeShape → ℕ → Bool
-shape_takes (type.Fun ts r) n = length ts == n
-shape_takes _ n = true
-
--- the type, or else the other one
-abbrev pub type_or : TypeId → Option TypeId → TypeId
-type_or u None = u
-type_or u (Some t) = t
-
--- what a function wants of an argument, or of the value behind these; a function is wanted where it is none
-abbrev pub wanted_by : TypeShape → ℕ → Wanted
-wanted_by (type.Fun ts r) i = wanted.Same (type_or r (slice_get ts i))
-wanted_by _ i = wanted.AnyFun
 
 -- the refusal says of types what the misfit says of their sorts
 abbrev pub Tells : World → Misfit → ShapeError → Type 0
@@ -174,14 +127,6 @@ pub record IsTold (w : World) (s : Shape) (ks : List Sort) (e : ShapeError) : Ty
   pub misfit : Misfit
   pub is : IsMisfit (operator s) ks misfit
   pub tells : Tells w misfit e
-
--- the form of an operator on bit-vectors
-abbrev pub bv_form : Form → BvForm
-bv_form form.One = one
-bv_form form.Two = two
-bv_form form.Test = test
-bv_form form.Some = some
-bv_form form.Joined = joined
 
 -- a function takes so many arguments, and what is none takes any
 abbrev pub takes_number : Sort → ℕ → Bool

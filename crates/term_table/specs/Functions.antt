@@ -1,5 +1,5 @@
 -- What the calls on function types say.
-use Rattle.std.specs.Prelude.{◌≡◌, ℕ, ◌+◌, ◌<◌, nat_le, Bool, true, false, ◌&&◌, List, [], ◌∷◌, ◌++◌, length, Option, Some, None, ◌⊎◌, slice_get}
+use Rattle.std.specs.Prelude.{◌≡◌, ℕ, ◌+◌, ◌<◌, Bool, true, false, List, [], ◌∷◌, ◌++◌, length, Option, Some, None, ◌⊎◌, slice_get}
 use Rattle.y_tree.specs.Sorts.{Sorts, function, is_sort}
 use Rattle.y_tree.specs.Sorts as sort
 use Rattle.y_tree.specs.declared.sorts.Sort.{Sort}
@@ -8,10 +8,11 @@ use Rattle.stamped_slots.specs.Slots.{Adds}
 use Rattle.term_shapes.specs.declared.handles.TypeId.{TypeId}
 use Rattle.term_shapes.specs.declared.shapes.TypeShape.{TypeShape}
 use Rattle.term_shapes.specs.declared.shapes.TypeShape.TheVariants as type
-use Rattle.term_table.specs.declared.errors.TableError.{TableError}
-use Rattle.term_table.specs.declared.errors.TableError.TheVariants as error
+use Rattle.shape_rules.specs.declared.errors.TableError.{TableError}
+use Rattle.shape_rules.specs.declared.errors.TableError.TheVariants as error
+pub use Rattle.shape_rules.specs.Rules.{is_arity}
 use Rattle.term_table.specs.World.{World, type_shape_at, HasTypeShape, KeepsType, KeepsTypes}
-use Rattle.term_table.specs.Changes.{RefusesSlot}
+use Rattle.table_slots.specs.Nodes.{RefusesSlot}
 
 -- the item at that place, from 1 on, is the first that has it
 pub record IsFirstWith {X : Type 0} (P : X → Type 0) (xs : List X) (place : ℕ) : Type 0 where
@@ -38,15 +39,6 @@ IsDeadType w t = type_shape_at w t ≡ None
 -- the type is one of functions
 abbrev pub IsFunctionType : World → TypeId → Type 0
 IsFunctionType w t = (ts : List TypeId) × (r : TypeId) × HasTypeShape w t (type.Fun ts r)
-
--- the shape is one of functions
-abbrev pub is_function : TypeShape → Bool
-is_function (type.Fun ts r) = true
-is_function _ = false
-
--- a function has from 1 to 16 arguments
-abbrev pub is_arity : ℕ → Bool
-is_arity n = nat_le 1 n && nat_le n 16
 
 -- a function type has these parts
 pub record ArePartTypes (w : World) (ts : List TypeId) (r : TypeId) : Type 0 where
@@ -92,11 +84,3 @@ pub record IsFunctionShape (w : World) (s : TypeShape) : Type 0 where
 abbrev pub StandsFor : World → TypeId → Option Sort → Type 0
 StandsFor w t None = type_shape_at w t ≡ None
 StandsFor w t (Some s) = KeepsType w t (plain_sort s)
-
--- the sort of a type that is none of functions
-abbrev pub simple_of : TypeShape → sort.Sort
-simple_of type.Bool = sort.boolean
-simple_of type.Real = sort.real
-simple_of (type.Bv n) = sort.bit_vector n
-simple_of (type.Free k) = sort.uninterpreted k
-simple_of (type.Fun ts r) = sort.boolean

@@ -3,3 +3,4 @@ pub mod Changes
 pub mod Start
 pub mod Checking
 pub mod Functions
+pub mod Naming

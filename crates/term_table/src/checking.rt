@@ -10,12 +10,13 @@ ghost use Rattle.y_tree.specs.Misfits.{row_of, count_fits, a_bit_vector, first_w
 ghost use Rattle.y_tree.specs.Misfits as misfit;
 ghost use Rattle.y_tree.specs.Laws.{wanted_behind, AreWanted, IsFirstOther, is_even};
 ghost use Rattle.term_shapes.specs.Shapes.{args_of};
-ghost use Rattle.term_table.specs.Changes.{IsOperator};
-ghost use Rattle.term_table.specs.Checking.{operator, IsAtom, HaveSorts, AreLive, IsFirstDead, IsTold, IsDeadAt, ToldAt, AllFit, AllWide, AllVectors, ToldBy, RefusesShape, IsShape};
+ghost use Rattle.shape_rules.specs.Rules.{operator};
+ghost use Rattle.term_table.specs.Checking.{HaveSorts, AreLive, IsFirstDead, IsTold, IsDeadAt, ToldAt, AllFit, AllWide, AllVectors, ToldBy, RefusesShape, IsShape};
 
-use crate::errors::ShapeError;
-use crate::forms::{Form, bits_refusal, form_of, joined_refusal, numbers_refusal};
 use crate::table::Table;
+use shape_rules::{
+    ShapeError, bits_refusal, form_of, is_atom, is_even, joined_refusal, numbers_refusal,
+};
 use term_shapes::{Shape, TypeId};
 use y_tree::laws::misfits;
 
@@ -142,6 +143,7 @@ impl Table {
     }
 
     /// The refusal for the shape's numbers and for the width of what it gives.
+    #[tactic(auto, using(crate::proofs::Misfitting::number_told))]
     fn own_refusal(&self, shape: &Shape) -> Option<ShapeError>
         ensures { (ks : List Sort) → HaveSorts self.now (args_of shape.now) ks → ToldBy self.now (out_in (operator shape.now) ks) result }
     {
@@ -165,28 +167,5 @@ impl Table {
             sum += u128::from(self.width_at(shape, place));
         }
         sum
-    }
-}
-
-/// Whether the shape is that of a constant or a variable.
-fn is_atom(shape: &Shape) -> bool
-    ensures atom { result ≡ true → IsAtom shape.now }
-    ensures operates { result ≡ false → IsOperator shape.now }
-{
-    matches!(shape, Shape::Const { .. } | Shape::Var { .. })
-}
-
-/// Whether all arguments have to be bit-vectors of one width.
-#[tactic(auto, using(crate::proofs::Rows::wants_vectors))]
-fn is_even(shape: &Shape) -> bool
-    ensures even { (ks : List Sort) → result ≡ is_even (row_of (operator shape.now) ks) }
-    ensures vectors { result ≡ true → (ks : List Sort) (v : misfit.Wanted) (i : ℕ) → wanted_behind (row_of (operator shape.now) ks) i ≡ Some v → v ≡ a_bit_vector }
-{
-    match shape {
-        Shape::Bv(op, _) => match form_of(*op) {
-            Form::One | Form::Joined => false,
-            Form::Two | Form::Test | Form::Some => true,
-        },
-        _ => false,
     }
 }

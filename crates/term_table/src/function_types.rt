@@ -3,12 +3,12 @@
 //! A function type is looked for before it gets a slot, like a term. Its parts are live and no functions, so the sort that
 //! it stands for is within the limits, and is read off its parts without a walk.
 ghost use Rattle.std.specs.Prelude.{◌≡◌, ◌++◌, ◌∷◌, [], IfOk, IfErr, IfSome, IfNone, OnErr, true, false, slice_get};
-ghost use Rattle.term_table.specs.Functions.{IsFirstWith, NoneHas, HasAt, IsDeadType, IsFunctionType, RefusesFunction, AddsFunction, is_function, is_arity};
+ghost use Rattle.shape_rules.specs.Rules.{is_function, is_arity};
+ghost use Rattle.term_table.specs.Functions.{IsFirstWith, NoneHas, HasAt, IsDeadType, IsFunctionType, RefusesFunction, AddsFunction};
 
-use crate::errors::TableError;
 use crate::table::Table;
-use std::alloc::{AllocError, Global};
-use term_shapes::{TypeId, TypeIds, TypeShape};
+use shape_rules::{TableError, function_shape, is_arity, is_function, part};
+use term_shapes::{TypeId, TypeShape};
 
 impl Table {
     /// The type of functions from these types to that one: the live type, or a new one. It takes time linear in the
@@ -97,57 +97,4 @@ impl Table {
             None => false,
         }
     }
-}
-
-/// Whether a type of that shape is one of functions.
-fn is_function(shape: &TypeShape) -> bool
-    ensures { result ≡ is_function shape.now }
-{
-    match shape {
-        TypeShape::Fun(_, _) => true,
-        _ => false,
-    }
-}
-
-/// Whether a function may have so many arguments.
-fn is_arity(number: usize) -> bool
-    ensures { result ≡ is_arity number }
-{
-    1 <= number && number <= 16
-}
-
-/// The type at that place, with the last one behind the others.
-fn part(arguments: &[TypeId], value: TypeId, place: usize) -> Option<TypeId>
-    ensures { result ≡ slice_get (arguments.now ++ value ∷ []) place }
-{
-    if place == arguments.len() {
-        return Some(value);
-    }
-    arguments.get(place).copied()
-}
-
-/// The shape of functions from these types to that one.
-fn function_shape(
-    alloc: Global,
-    arguments: &[TypeId],
-    value: TypeId,
-) -> Result<TypeShape, TableError>
-    ensures ok { IfOk result (λ s. s ≡ TypeShape.Fun arguments.now value) }
-    ensures err { IfErr result (λ e. e ≡ TableError.NoMemory) }
-{
-    match copied(alloc, arguments) {
-        Ok(domain) => Ok(TypeShape::Fun(domain, value)),
-        Err(_) => Err(TableError::NoMemory),
-    }
-}
-
-/// A copy of the types.
-fn copied(alloc: Global, types: &[TypeId]) -> Result<TypeIds, AllocError>
-    ensures { IfOk result (λ copies. copies ≡ types.now) }
-{
-    let mut copies = TypeIds::new(alloc);
-    for of in types {
-        copies.push(*of)?;
-    }
-    Ok(copies)
 }

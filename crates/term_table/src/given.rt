@@ -8,12 +8,12 @@ ghost use Rattle.y_tree.specs.Misfits.{width};
 ghost use Rattle.y_tree.specs.Typing.{typed, typed_bits, typed_at, widths};
 ghost use Rattle.term_shapes.specs.Shapes.{args_of};
 ghost use Rattle.term_table.specs.World.{KeepsType};
-ghost use Rattle.term_table.specs.Changes.{IsOperator};
-ghost use Rattle.term_table.specs.Checking.{operator, HasSort, HaveSorts, bv_form, shape_result};
+ghost use Rattle.shape_rules.specs.Rules.{IsOperator, operator, bv_form, shape_result};
+ghost use Rattle.term_table.specs.Checking.{HasSort, HaveSorts};
 
-use crate::forms::{Form, form_of};
 use crate::table::Table;
-use term_shapes::{Shape, Term, TypeId, TypeShape};
+use shape_rules::{Form, form_of, shape_result};
+use term_shapes::{Shape, Term, TypeId};
 use y_tree::BvAtOp;
 
 impl Table {
@@ -100,15 +100,5 @@ impl Table {
                 self.vector(u128::from(self.width_of_term(of)) + u128::from(first))
             }
         }
-    }
-}
-
-/// The type of what a function of that type gives; for other types that of truth values.
-fn shape_result(shape: &TypeShape) -> TypeId
-    ensures { result ≡ shape_result shape.now }
-{
-    match shape {
-        TypeShape::Fun(_, result_type) => *result_type,
-        _ => TypeId { slot: 0, stamp: 0 },
     }
 }

@@ -7,8 +7,9 @@ ghost use Rattle.term_shapes.specs.declared.shapes.Node.{Node};
 ghost use Rattle.term_shapes.specs.declared.shapes.Shape.{Shape};
 ghost use Rattle.term_shapes.specs.Shapes.{args_of};
 ghost use Rattle.term_table.specs.World.{World, node_at, HasNode, Keeps, KeepsAll, IsTable, IsAfter, IsFreedTerm};
-ghost use Rattle.term_table.specs.Changes.{AddsTerm, IsTyped, IsOperator, Sweeps, IsClosed, IsMarked};
-ghost use Rattle.term_table.specs.Checking.{IsShape, operator};
+ghost use Rattle.shape_rules.specs.Rules.{IsOperator, operator};
+ghost use Rattle.term_table.specs.Changes.{AddsTerm, IsTyped, Sweeps, IsClosed, IsMarked};
+ghost use Rattle.term_table.specs.Checking.{IsShape};
 
 /// What a handle stands for stays when a term is added, and no freed handle comes back.
 #[tactic(auto, using(crate::proofs::Lasting::adding_keeps, crate::proofs::Lasting::adding_after))]

@@ -13,18 +13,17 @@
 #![tactic(auto)]
 
 mod checking;
-mod errors;
-mod forms;
 mod function_types;
 mod given;
 mod laws;
 mod sorts_of;
-mod start;
 mod table;
+#[cfg(test)]
+mod tests;
 mod wanted;
 
-pub use errors::{ShapeError, TableError, Wanted};
 pub use laws::{added_stands, after_adding, after_sweeping, checked_is_typed, freed_is_dead};
+pub use shape_rules::{ShapeError, TableError, Wanted};
 pub use table::{Marked, Table};
 pub use term_shapes::{
     Args, Monomial, Monomials, Node, Shape, Term, Terms, TypeId, TypeIds, TypeShape,

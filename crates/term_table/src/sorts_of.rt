@@ -7,9 +7,11 @@ ghost use Rattle.y_tree.specs.Sorts.{Sorts, function, is_simple, are_simple};
 ghost use Rattle.y_tree.specs.Sorts as sort;
 ghost use Rattle.y_tree.specs.Plain.{plain_sort, plain_sorts};
 ghost use Rattle.term_table.specs.World.{KeepsType, KeepsTypes};
-ghost use Rattle.term_table.specs.Functions.{StandsFor, simple_of};
+ghost use Rattle.shape_rules.specs.Rules.{simple_of};
+ghost use Rattle.term_table.specs.Functions.{StandsFor};
 
 use crate::table::Table;
+use shape_rules::simple_sort;
 use sqlite_items::Boxed;
 use std::alloc::{AllocError, Global};
 use term_shapes::{TypeId, TypeShape};
@@ -62,19 +64,5 @@ impl Table {
             Some(shape) => simple_sort(shape),
             None => Sort::Bool,
         }
-    }
-}
-
-/// The sort of a type of that shape, where it is none of functions.
-#[tactic(auto, unfolding(y_tree::specs::Plain::plain_sort))]
-fn simple_sort(shape: &TypeShape) -> Sort
-    ensures { plain_sort result ≡ simple_of shape.now }
-{
-    match shape {
-        TypeShape::Bool => Sort::Bool,
-        TypeShape::Real => Sort::Real,
-        TypeShape::Bv(width) => Sort::Bv(*width),
-        TypeShape::Free(kind) => Sort::Free(*kind),
-        TypeShape::Fun(_, _) => Sort::Bool,
     }
 }

@@ -1,24 +1,32 @@
 //! The table.
 ghost use Rattle.std.specs.Prelude.{◌≡◌, ℕ, ◌<◌, ◌≤◌, ◌+◌, Bool, List, Option, Some, None, IfOk, OnOk, OnErr, IfSome, IfNone, IfErr, IsSome, IsTrue, ◌↔◌, is_some, slice_get, length};
 ghost use Rattle.std.specs.Option.{option_copied};
-ghost use Rattle.stamped_slots.specs.Slots.{Slot, Adds, live, taken};
+ghost use Rattle.stamped_slots.specs.Slots.{Slot, Adds, held_at, live, taken};
 ghost use Rattle.term_shapes.specs.Shapes.{op_of, args_of, types_of, parts_of};
 ghost use Rattle.y_tree.specs.Tree.{Tree, Trees};
 ghost use Rattle.y_tree.specs.Sorts.{Sort};
 ghost use Rattle.term_shapes.specs.declared.handles.Term.{Term};
 ghost use Rattle.term_shapes.specs.declared.handles.TypeId.{TypeId};
 ghost use Rattle.stamped_slots.specs.Regular.{IsAbsent, NoneWaits};
-ghost use Rattle.term_table.specs.Changes.{IsNoWidth, MakesConstant, MakesVariable, MakesType, RefusesAtom, RefusesNumber, CountsUp, CountsDown, CountsTypeUp, CountsTypeDown, RefusesUp, RefusesDown, RefusesTypeUp, RefusesTypeDown, IsClosed, Sweeps, FreedCounts, TakesUp, cleared, roots_marked, term_marked, type_marked, IsTyped, AddsTerm, AddsNode, IsOperator, RefusesSlot, RefusesTerm};
+ghost use Rattle.shape_rules.specs.Rules.{IsOperator};
+ghost use Rattle.table_slots.specs.Nodes.{RefusesSlot, meant_terms, meant_types, meant_marked};
+ghost use Rattle.term_table.specs.Changes.{IsNoWidth, MakesConstant, MakesVariable, MakesType, RefusesAtom, CountsUp, CountsDown, CountsTypeUp, CountsTypeDown, RefusesUp, RefusesDown, RefusesTypeUp, RefusesTypeDown, IsClosed, Sweeps, FreedCounts, TakesUp, cleared, roots_marked, term_marked, type_marked, IsTyped, AddsTerm, AddsNode, RefusesTerm};
 ghost use Rattle.term_table.specs.Checking.{IsShape, AddsShape};
 ghost use Rattle.term_table.specs.Functions.{IsFunctionShape, AddsFunction, RefusesType};
+ghost use Rattle.term_table.specs.Naming.{term_named, type_named, term_unnamed, type_unnamed, RefusesName, RefusesTypeName, names_marked};
+ghost use Rattle.name_stacks.specs.Names.{newest, oldest_name};
 ghost use Rattle.term_table.specs.Start.{IsNew};
 ghost use Rattle.term_table.specs.World.{World, node_at, shape_at, type_at, type_shape_at, HasShape, HasType, HasTypeShape, Keeps, KeepsAll, KeepsType, IsTable};
 
-use crate::errors::TableError;
-use crate::start::{permanent_terms, permanent_types};
-use stamped_slots::{Full, Slots};
+use name_stacks::Names;
+use shape_rules::TableError;
+use stamped_slots::Slots;
 use std::alloc::{AllocError, Global};
 use std::marker::Model;
+use table_slots::{
+    LiveTerms, LiveTypes, mark_terms, mark_types, permanent_terms, permanent_types, put_term,
+    put_type,
+};
 use term_shapes::{Node, Shape, Term, TypeId, TypeShape, node_equality, type_equality};
 
 /// A handle that was taken off the worklist.
@@ -36,20 +44,21 @@ pub struct Table {
     alloc: Global,
     terms: Slots<Node>,
     types: Slots<TypeShape>,
+    term_names: Names<Term>,
+    type_names: Names<TypeId>,
     constants: u64,
     variables: u64,
     kinds: u64,
 }
 
 impl Model for Table {
-    ghost use Rattle.std.specs.Prelude.{[]};
     ghost use Rattle.term_table.specs.World.{World, IsTable};
 
     ghost Value = { World };
 
-    ghost view = { λ t. record { terms = t.terms; types = t.types; term_names = []; type_names = []; constants = t.constants; variables = t.variables; kinds = t.kinds } };
+    ghost view = { λ t. record { terms = t.terms; types = t.types; term_names = t.term_names; type_names = t.type_names; constants = t.constants; variables = t.variables; kinds = t.kinds } };
 
-    ghost invariant = { λ t. IsTable (record { terms = t.terms; types = t.types; term_names = []; type_names = []; constants = t.constants; variables = t.variables; kinds = t.kinds }) };
+    ghost invariant = { λ t. IsTable (record { terms = t.terms; types = t.types; term_names = t.term_names; type_names = t.type_names; constants = t.constants; variables = t.variables; kinds = t.kinds }) };
 }
 
 impl Table {
@@ -165,20 +174,6 @@ impl Table {
     }
 }
 
-/// Puts a new node into the slots.
-fn put_term(terms: &mut Slots<Node>, node: Node) -> Result<(u32, u32), TableError>
-    requires { IsAbsent ⟦<Node as PartialEq>⟧.eq terms.old node }
-    ensures added { IfOk result (λ r. Adds terms.old terms.new r.0 r.1 node) }
-    ensures full { IfErr result (λ e. RefusesSlot terms.old e) }
-    ensures err { OnErr result (terms.new ≡ terms.old) }
-{
-    match terms.insert(node) {
-        Ok(put) => Ok(put),
-        Err(Full::Full) => Err(TableError::TableFull),
-        Err(Full::NoMemory) => Err(TableError::NoMemory),
-    }
-}
-
 impl Table {
     /// Takes all marks away, and empties the worklist. The time is linear in what is live.
     pub fn clear_marks(&mut self)
@@ -218,6 +213,16 @@ impl Table {
         self.types.regular();
     }
 
+    /// Marks each meaning of each name, hidden ones too. The time is linear in the names.
+    pub fn mark_named(&mut self)
+        ensures { self.new ≡ names_marked self.old }
+    {
+        mark_terms(&mut self.terms, &self.term_names);
+        mark_types(&mut self.types, &self.type_names);
+        self.terms.regular();
+        self.types.regular();
+    }
+
     /// Takes one handle off the worklist; `None` where it is empty.
     pub fn next_marked(&mut self) -> Option<Marked>
         ensures some { IfSome result (λ m. TakesUp self.old m self.new) }
@@ -248,6 +253,8 @@ impl Table {
         let types = self.types.sweep();
         self.terms.regular();
         self.types.regular();
+        self.term_names.retain(&LiveTerms { terms: &self.terms });
+        self.type_names.retain(&LiveTypes { types: &self.types });
         (terms, types)
     }
 }
@@ -350,7 +357,7 @@ impl Table {
     /// `DeadType(1)`, then `TableFull` where no slot is left, then `NoMemory`. Then nothing changes.
     pub fn new_constant(&mut self, of: TypeId) -> Result<Term, TableError>
         ensures made { IfOk result (λ t. MakesConstant self.old self.new of t) }
-        ensures refused { IfErr result (λ e. RefusesAtom self.old of self.old.constants e) }
+        ensures refused { IfErr result (λ e. RefusesAtom self.old of e) }
         ensures same { OnErr result (self.new ≡ self.old) }
     {
         node_equality();
@@ -358,9 +365,6 @@ impl Table {
             return Err(TableError::DeadType(1));
         }
         let number = self.constants;
-        if number == u64::MAX {
-            return Err(TableError::TableFull);
-        }
         let shape = Shape::Const { number, of };
         let (slot, stamp) = put_term(&mut self.terms, Node { shape, of })?;
         self.constants = number + 1;
@@ -375,7 +379,7 @@ impl Table {
     /// `DeadType(1)`, then `TableFull` where no slot is left, then `NoMemory`. Then nothing changes.
     pub fn new_variable(&mut self, of: TypeId) -> Result<Term, TableError>
         ensures made { IfOk result (λ t. MakesVariable self.old self.new of t) }
-        ensures refused { IfErr result (λ e. RefusesAtom self.old of self.old.variables e) }
+        ensures refused { IfErr result (λ e. RefusesAtom self.old of e) }
         ensures same { OnErr result (self.new ≡ self.old) }
     {
         node_equality();
@@ -383,9 +387,6 @@ impl Table {
             return Err(TableError::DeadType(1));
         }
         let number = self.variables;
-        if number == u64::MAX {
-            return Err(TableError::TableFull);
-        }
         let shape = Shape::Var { number, of };
         let (slot, stamp) = put_term(&mut self.terms, Node { shape, of })?;
         self.variables = number + 1;
@@ -400,14 +401,11 @@ impl Table {
     /// `TableFull` where no slot is left, then `NoMemory`. Then nothing changes.
     pub fn new_type(&mut self) -> Result<TypeId, TableError>
         ensures made { IfOk result (λ t. MakesType self.old self.new t) }
-        ensures refused { IfErr result (λ e. RefusesNumber self.old.types self.old.kinds e) }
+        ensures refused { IfErr result (λ e. RefusesSlot self.old.types e) }
         ensures same { OnErr result (self.new ≡ self.old) }
     {
         type_equality();
         let number = self.kinds;
-        if number == u64::MAX {
-            return Err(TableError::TableFull);
-        }
         let (slot, stamp) = put_type(&mut self.types, TypeShape::Free(number))?;
         self.kinds = number + 1;
         self.types.regular();
@@ -439,20 +437,6 @@ impl Table {
     }
 }
 
-/// Puts a new type into the slots.
-fn put_type(types: &mut Slots<TypeShape>, shape: TypeShape) -> Result<(u32, u32), TableError>
-    requires { IsAbsent ⟦<TypeShape as PartialEq>⟧.eq types.old shape }
-    ensures added { IfOk result (λ r. Adds types.old types.new r.0 r.1 shape) }
-    ensures full { IfErr result (λ e. RefusesSlot types.old e) }
-    ensures err { OnErr result (types.new ≡ types.old) }
-{
-    match types.insert(shape) {
-        Ok(put) => Ok(put),
-        Err(Full::Full) => Err(TableError::TableFull),
-        Err(Full::NoMemory) => Err(TableError::NoMemory),
-    }
-}
-
 impl Table {
     /// A table with the 130 permanent types and the two permanent terms.
     ///
@@ -472,6 +456,8 @@ impl Table {
             alloc,
             terms,
             types,
+            term_names: Names::new(alloc),
+            type_names: Names::new(alloc),
             constants: 0,
             variables: 0,
             kinds: 0,
@@ -525,5 +511,92 @@ impl Table {
         }
         let slot = width as u32 + 1;
         Ok(TypeId { slot, stamp: 0 })
+    }
+}
+
+impl Table {
+    /// Gives a name a new meaning, which hides its older ones.
+    ///
+    /// # Errors
+    ///
+    /// `DeadTerm`, then `NoMemory`. Then nothing changes.
+    pub fn set_name(&mut self, name: &str, t: Term) -> Result<(), TableError>
+        ensures named { OnOk result (self.new ≡ term_named self.old name.now t) }
+        ensures live { OnOk result (IsSome (node_at self.old t)) }
+        ensures refused { IfErr result (λ e. RefusesName self.old t e) }
+        ensures same { OnErr result (self.new ≡ self.old) }
+    {
+        if self.terms.get(t.slot, t.stamp).is_none() {
+            return Err(TableError::DeadTerm);
+        }
+        match self.term_names.push(name, t) {
+            Ok(()) => Ok(()),
+            Err(_) => Err(TableError::NoMemory),
+        }
+    }
+
+    /// The newest meaning of a name, in expected constant time.
+    pub fn by_name(&self, name: &str) -> Option<Term>
+        ensures { result ≡ newest name.now self.now.term_names }
+    {
+        self.term_names.newest(name)
+    }
+
+    /// The name of the oldest meaning that is this term, hidden or not, in time linear in the names.
+    pub fn name_of(&self, t: Term) -> Option<&str>
+        ensures { option_copied result ≡ oldest_name ⟦<Term as PartialEq>⟧.eq t self.now.term_names }
+    {
+        self.term_names.name_of(t)
+    }
+
+    /// Takes the newest meaning of a name away, so that the older one is back. The answer is whether there was one.
+    pub fn remove_name(&mut self, name: &str) -> bool
+        ensures there { result ≡ is_some (newest name.now self.old.term_names) }
+        ensures names { self.new ≡ term_unnamed self.old name.now }
+    {
+        self.term_names.remove(name)
+    }
+
+    /// Gives a name of types a new meaning, which hides its older ones.
+    ///
+    /// # Errors
+    ///
+    /// `DeadType(1)`, then `NoMemory`. Then nothing changes.
+    pub fn set_type_name(&mut self, name: &str, t: TypeId) -> Result<(), TableError>
+        ensures named { OnOk result (self.new ≡ type_named self.old name.now t) }
+        ensures live { OnOk result (IsSome (type_shape_at self.old t)) }
+        ensures refused { IfErr result (λ e. RefusesTypeName self.old t e) }
+        ensures same { OnErr result (self.new ≡ self.old) }
+    {
+        if self.types.get(t.slot, t.stamp).is_none() {
+            return Err(TableError::DeadType(1));
+        }
+        match self.type_names.push(name, t) {
+            Ok(()) => Ok(()),
+            Err(_) => Err(TableError::NoMemory),
+        }
+    }
+
+    /// The newest meaning of a name of types, in expected constant time.
+    pub fn type_by_name(&self, name: &str) -> Option<TypeId>
+        ensures { result ≡ newest name.now self.now.type_names }
+    {
+        self.type_names.newest(name)
+    }
+
+    /// The name of the oldest meaning that is this type, hidden or not, in time linear in the names.
+    pub fn type_name_of(&self, t: TypeId) -> Option<&str>
+        ensures { option_copied result ≡ oldest_name ⟦<TypeId as PartialEq>⟧.eq t self.now.type_names }
+    {
+        self.type_names.name_of(t)
+    }
+
+    /// Takes the newest meaning of a name of types away, so that the older one is back. The answer is whether there was
+    /// one.
+    pub fn remove_type_name(&mut self, name: &str) -> bool
+        ensures there { result ≡ is_some (newest name.now self.old.type_names) }
+        ensures names { self.new ≡ type_unnamed self.old name.now }
+    {
+        self.type_names.remove(name)
     }
 }

@@ -12,11 +12,11 @@ ghost use Rattle.y_tree.specs.Tree.{choice, equality};
 ghost use Rattle.term_shapes.specs.declared.handles.TypeId.{TypeId};
 ghost use Rattle.term_shapes.specs.Shapes.{args_of};
 ghost use Rattle.term_table.specs.World.{KeepsType, HasType, type_shape_at};
-ghost use Rattle.term_table.specs.Checking.{operator, HasSort, HaveSorts, IsKept, Wants, WantsHere, IsKind, is_kind, shape_width, shape_takes, wanted_by, takes_number};
+ghost use Rattle.shape_rules.specs.Rules.{operator, is_kind, shape_width, shape_takes, wanted_by};
+ghost use Rattle.term_table.specs.Checking.{HasSort, HaveSorts, IsKept, Wants, WantsHere, IsKind, takes_number};
 
-use crate::errors::Wanted;
-use crate::forms::{Form, form_of};
 use crate::table::Table;
+use shape_rules::{Form, Wanted, form_of, is_kind, shape_takes, shape_width, wanted_by};
 use term_shapes::{Shape, Term, TypeId, TypeShape};
 
 impl Table {
@@ -87,7 +87,7 @@ impl Table {
     }
 
     /// What the argument at that place is to have; `None` where any type will do.
-    #[tactic(auto, using(crate::proofs::Rows::choice_wants, crate::proofs::Rows::equality_wants, crate::proofs::Rows::function_row_wants, crate::proofs::Rows::one_of_many, crate::proofs::Rows::wants_vectors, crate::proofs::Rows::only_one))]
+    #[tactic(auto, using(crate::proofs::Rows::choice_wants, crate::proofs::Rows::equality_wants, crate::proofs::Rows::function_row_wants, crate::proofs::Rows::one_of_many, shape_rules::proofs::Vectors::wants_vectors, shape_rules::proofs::Vectors::only_one))]
     pub(crate) fn wanted(&self, shape: &Shape, place: usize) -> Option<Wanted>
         ensures { (ks : List Sort) (v : misfit.Wanted) → HaveSorts self.now (args_of shape.now) ks → wanted_behind (row_of (operator shape.now) ks) place ≡ Some v → WantsHere self.now result v }
     {
@@ -198,51 +198,5 @@ impl Table {
             Some(shape) => shape_takes(shape, number),
             None => true,
         }
-    }
-}
-
-/// Whether a type of that shape is of the kind that is wanted.
-fn is_kind(wanted: Wanted, shape: &TypeShape) -> bool
-    ensures { result ≡ is_kind wanted shape.now }
-{
-    match (wanted, shape) {
-        (Wanted::Bool, TypeShape::Bool) => true,
-        (Wanted::Real, TypeShape::Real) => true,
-        (Wanted::AnyBv, TypeShape::Bv(_)) => true,
-        (Wanted::AnyFun, TypeShape::Fun(_, _)) => true,
-        _ => false,
-    }
-}
-
-/// The width of a type of bit-vectors; 0 for others.
-fn shape_width(shape: &TypeShape) -> u32
-    ensures { result ≡ shape_width shape.now }
-{
-    match shape {
-        TypeShape::Bv(width) => *width,
-        _ => 0,
-    }
-}
-
-/// What a function of that type wants of the argument at that place, or of the value behind these.
-fn wanted_by(shape: &TypeShape, place: usize) -> Wanted
-    ensures { result ≡ wanted_by shape.now place }
-{
-    match shape {
-        TypeShape::Fun(domain, result_type) => match domain.as_slice().get(place) {
-            Some(of) => Wanted::Same(*of),
-            None => Wanted::Same(*result_type),
-        },
-        _ => Wanted::AnyFun,
-    }
-}
-
-/// Whether a function of that type takes so many arguments; true where the type is none of functions.
-fn shape_takes(shape: &TypeShape, number: usize) -> bool
-    ensures { result ≡ shape_takes shape.now number }
-{
-    match shape {
-        TypeShape::Fun(domain, _) => domain.as_slice().len() == number,
-        _ => true,
     }
 }

@@ -18,7 +18,7 @@ invariant_of-self-2 c =
     function_sound _ _ (record { slot = c.in_ok-slot.slot; stamp = c.in_ok-slot.stamp }) c.args.shape c.self.invariant c.in_ok-slot.ensures.added refl refl refl (omega arith)
     (subst (λ w. IsFunctionShape w c.args.shape) (sym c.self.view_is) c.requires)
     (λ u h. no_type _ c.self.invariant _ c.type_equality.ensures c.args.shape c.in_default.ensures.absent u h)
-    c.regular.ensures.regular
+    c.regular.ensures.regular (omega arith) refl refl
 
 pub returns-clause-added : goal.returns-clause-added
 returns-clause-added c =

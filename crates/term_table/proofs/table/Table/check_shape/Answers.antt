@@ -1,7 +1,7 @@
 use Rattle.std.proofs.Common.{◌∙◌, refl, sym, ap}
 use Rattle.y_tree.specs.Misfits.{row_of, count_fits, out_in, bad_arity}
 use Rattle.term_shapes.specs.Shapes.{args_of}
-use Rattle.term_table.specs.Checking.{operator}
+use Rattle.shape_rules.specs.Rules.{operator}
 use Rattle.term_table.proofs.Sorting.{have_all, have_length}
 use Rattle.term_table.proofs.Misfitting.{misfitting, refuses, wanted_all, own_misfit, shape_of_term, none_own}
 use Rattle.term_table.proofs.table.Table.check_shape.Goals as goal

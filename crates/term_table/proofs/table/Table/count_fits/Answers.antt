@@ -2,7 +2,7 @@ use Rattle.std.proofs.Common.{◌∙◌, length, sym, ap, ⊎_elim}
 use Rattle.y_tree.specs.Typing.{one, two, test, some, joined}
 use Rattle.y_tree.specs.Misfits.{row_of, count_fits}
 use Rattle.term_shapes.specs.Shapes.{args_of}
-use Rattle.term_table.specs.Checking.{operator, bv_form}
+use Rattle.shape_rules.specs.Rules.{operator, bv_form}
 use Rattle.term_table.proofs.Arities.{count_bits, count_call, count_update, count_some, count_fixed}
 use Rattle.term_table.proofs.table.Table.count_fits.Goals as goal
 

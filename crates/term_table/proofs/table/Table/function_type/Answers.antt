@@ -1,7 +1,7 @@
 use Rattle.std.proofs.Common.{◌∙◌, sym, subst}
 use Rattle.term_shapes.specs.declared.shapes.TypeShape.TheVariants as type
 use Rattle.term_shapes.specs.declared.handles.TypeId.{TypeId}
-use Rattle.term_table.specs.declared.errors.TableError.{TableError}
+use Rattle.shape_rules.specs.declared.errors.TableError.{TableError}
 use Rattle.term_table.specs.Functions.{ArePartTypes, AddsFunction, RefusesType, RefusesFunction}
 use Rattle.term_table.proofs.Standing.{if_ok, if_err}
 use Rattle.term_table.proofs.Domains.{function_shape_of, refuses_function}

@@ -3,7 +3,7 @@ use Rattle.std.specs.List.{list_all}
 use Rattle.y_tree.specs.Sorts.{real, same_sort}
 use Rattle.y_tree.specs.Typing.{typed, are}
 use Rattle.term_shapes.specs.declared.lists.Monomial.{Monomial}
-use Rattle.term_table.specs.Checking.{operator}
+use Rattle.shape_rules.specs.Rules.{operator}
 use Rattle.term_table.proofs.Giving.{call_given, bool_given, real_given}
 use Rattle.term_table.proofs.table.Table.given.Goals as goal
 

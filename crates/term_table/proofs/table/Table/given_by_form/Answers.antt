@@ -1,6 +1,6 @@
 use Rattle.std.proofs.Common.{◌≡◌, Some, subst, ⊎_elim}
 use Rattle.y_tree.specs.Typing.{one, two, test, some, joined, typed_bits, widths}
-use Rattle.term_table.specs.Checking.{bv_form}
+use Rattle.shape_rules.specs.Rules.{bv_form}
 use Rattle.term_table.proofs.Giving.{test_given, joined_given, first_given, keeps_bool}
 use Rattle.term_table.proofs.table.Table.given_by_form.Goals as goal
 

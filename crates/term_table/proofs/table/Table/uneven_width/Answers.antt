@@ -1,6 +1,6 @@
 use Rattle.std.proofs.Common.{◌∙◌, ◌+◌, refl, sym, arith}
 use Rattle.y_tree.specs.Misfits.{row_of, widths_differ}
-use Rattle.term_table.specs.Checking.{operator}
+use Rattle.shape_rules.specs.Rules.{operator}
 use Rattle.term_table.proofs.Misfitting.{all_vectors}
 use Rattle.term_table.proofs.table.Table.uneven_width.Goals as goal
 

@@ -3,8 +3,10 @@ use Rattle.y_tree.specs.Misfits.{row_of, a_real}
 use Rattle.y_tree.specs.Laws.{wanted_behind}
 use Rattle.term_shapes.specs.Shapes.{args_of}
 use Rattle.term_shapes.specs.declared.lists.Monomial.{Monomial}
-use Rattle.term_table.specs.Checking.{HaveSorts, operator}
-use Rattle.term_table.proofs.Rows.{choice_wants, equality_wants, one_of_many, only_one}
+use Rattle.shape_rules.specs.Rules.{operator}
+use Rattle.term_table.specs.Checking.{HaveSorts}
+use Rattle.shape_rules.proofs.Vectors.{only_one}
+use Rattle.term_table.proofs.Rows.{choice_wants, equality_wants, one_of_many}
 use Rattle.term_table.proofs.table.Table.wanted.Goals as goal
 
 pub returns-in-Ite : goal.returns-in-Ite

@@ -4,7 +4,8 @@ use Rattle.y_tree.specs.Sorts.{Sort}
 use Rattle.y_tree.specs.Misfits.{Wanted, row_of, fits}
 use Rattle.y_tree.specs.Laws.{wanted_behind}
 use Rattle.term_shapes.specs.Shapes.{args_of}
-use Rattle.term_table.specs.Checking.{operator, HaveSorts}
+use Rattle.shape_rules.specs.Rules.{operator}
+use Rattle.term_table.specs.Checking.{HaveSorts}
 use Rattle.term_table.proofs.table.Table.wrong_type.Given as goal
 
 -- the arguments before are what is wanted

@@ -1,6 +1,0 @@
-use Rattle.std.proofs.Common.{◌≡◌, take}
-use Rattle.term_table.proofs.function_types.copied.Given as goal
-
--- the types before are copied
-abbrev pub invariant-loop-of : goal.invariant-loop-of
-invariant-loop-of l = l.copies ≡ take l.of-index l.types
