@@ -2,7 +2,7 @@
 use Rattle.std.proofs.Common.{ℕ, ◌≡◌, true, false, List, [], ◌∷◌, sym, subst, ◌⊎◌, inl, inr, append-nil, arith}
 use Rattle.y_io.specs.Outside.{Grows}
 use Rattle.yices_grammar.specs.declared.Place.{Place}
-use Rattle.yices_grammar.specs.Grammar.{Command}
+use Rattle.yices_grammar.specs.Commands.{Command}
 use Rattle.yices_grammar.specs.Texts.{Reads, BeginsWith}
 use Rattle.yices_grammar.specs.Faults.{FaultKind}
 use Rattle.yices_session.specs.declared.refusal.Refusal.{Refusal}
@@ -66,8 +66,7 @@ no_memory words input out exit.NoMemory h = h
 no_memory words input out (exit.Syntax e) (valid, h) = inr (valid, faulty_stopped input out _ _ h)
 no_memory words input out exit.ReadFault (valid, h) = inr (valid, waited_stopped input out h.text h.got h.waited)
 no_memory words input out (exit.Usage k) h = inl h.2
-no_memory words input out (exit.Refused at why) (valid, inl h) = inr (valid, refused_stopped input out at why h)
-no_memory words input out (exit.Refused at why) (valid, inr h) = inr (valid, faulty_stopped input out _ _ h.1)
+no_memory words input out (exit.Refused at why) (valid, h) = inr (valid, refused_stopped input out at why h)
 no_memory words input out exit.WriteFault h = absurd h
 no_memory words input out (exit.TooLong long.Bytes) (valid, h) =
     inr (valid, waited_stopped input out h.text (record { front = front_before input.held h.text h.more; short = omega (arith, h.full) }) h.waited)

@@ -1,9 +1,12 @@
 -- Answering one command more, and the end of it.
-use Rattle.std.proofs.Common.{ℕ, ◌≡◌, ◌≤◌, Bool, false, List, [], ◌∷◌, ◌++◌, Option, take, refl, sym, subst, inl, inr, append-nil}
+use Rattle.std.proofs.Common.{ℕ, ◌≡◌, ◌≤◌, ◌<◌, ◌-◌, Bool, true, false, List, [], ◌∷◌, ◌++◌, Option, Result, Ok, Err, take, length, refl, sym, ap, subst, inl, inr, arith, append-nil, length-append}
+use Rattle.std.specs.Prelude.{IfOk}
 use Rattle.y_io.specs.Outside.{Rose, Grows, GrowsByPart}
-use Rattle.yices_grammar.specs.Grammar.{Command, exit}
+use Rattle.yices_grammar.specs.Commands.{exit, Command}
 use Rattle.yices_grammar.specs.Texts.{Reads, BeginsWith}
 use Rattle.yices_text.specs.View.{HoldsNoMore}
+use Rattle.yices_session.specs.declared.refusal.Reply.{Reply}
+use Rattle.yices_session.specs.declared.refusal.Stop.{Stop}
 use Rattle.yices_session.specs.State.{State, empty_state}
 use Rattle.yices_session.specs.Steps.{Runs, Step}
 use Rattle.yices_cli.specs.declared.exit.Exit.{Exit}
@@ -13,8 +16,9 @@ use Rattle.yices_cli.specs.declared.reading.TextEnd.{TextEnd}
 use Rattle.yices_cli.specs.declared.reading.TextEnd.TheVariants as text_end
 use Rattle.yices_cli.specs.Headline.{SourceSeen, SinkSeen, HasAnswered, HasWaited, joined}
 use Rattle.yices_cli.specs.Parts.{is_finished, HasNoFault, IsUnread, IsUnanswered, IsTextTo, Answers, EndsSo}
+use Rattle.yices_cli.specs.Turns.{IsUnreplied, AnswersNext, LeavesNext, IsReadOut, IsFailed}
 use Rattle.yices_cli.proofs.Growing.{grows_same, grows_on, joined-push}
-use Rattle.yices_cli.proofs.Texts.{got_to, rose_since}
+use Rattle.yices_cli.proofs.Texts.{got_to, rose_since, few}
 
 runs-push : (a b d : State) (cs : List Command) (rs : List (List ℕ)) (c : Command) (r : List ℕ) → Runs a cs rs b → (c.action ≡ exit → ⊥) → Step b c.action r d → Runs a (cs ++ c ∷ []) (rs ++ r ∷ []) d
 runs-push a b d [] [] c r h on step = (on, (d, subst (λ s. Step s c.action r d) h step, refl))
@@ -54,8 +58,7 @@ unread_stops end finished text cs s out (ends.Syntax e) same so begins why input
     inl (refl, record { finished = finished; text = text; got = got_to input text end finished same to; front = cs; begins = begins; fault = why; last = s; answered = so })
 unread_stops end finished text cs s out ends.ReadFault same so begins why input to = absurd why
 unread_stops end finished text cs s out (ends.Usage k) same so begins why input to = absurd why
-unread_stops end finished text cs s out (ends.Refused at cause) same so begins why input to =
-    inl (refl, inr (why.0, record { finished = finished; text = text; got = got_to input text end finished same to; front = cs; begins = begins; fault = why.1; last = s; answered = so }))
+unread_stops end finished text cs s out (ends.Refused at cause) same so begins why input to = absurd why
 unread_stops end finished text cs s out ends.WriteFault same so begins why input to = absurd why
 unread_stops end finished text cs s out (ends.TooLong long.Bytes) same so begins why input to = absurd why
 unread_stops end finished text cs s out (ends.TooLong (long.Nesting at)) same so begins why input to =
@@ -82,10 +85,8 @@ unanswered_stops end finished text cs c s out ends.NoMemory same so begins why i
 unanswered_stops end finished text cs c s out (ends.Syntax e) same so begins why input to = absurd why
 unanswered_stops end finished text cs c s out ends.ReadFault same so begins why input to = absurd why
 unanswered_stops end finished text cs c s out (ends.Usage k) same so begins why input to = absurd why
-unanswered_stops end finished text cs c s out (ends.Refused at cause) same so begins why input to = inl (
-  refl,
-  inl (record { finished = finished; text = text; got = got_to input text end finished same to; front = cs; command = c; begins = begins; last = s; answered = so; refused = why }),
-)
+unanswered_stops end finished text cs c s out (ends.Refused at cause) same so begins why input to =
+    inl (refl, record { finished = finished; text = text; got = got_to input text end finished same to; front = cs; command = c; begins = begins; last = s; answered = so; refused = why })
 unanswered_stops end finished text cs c s out ends.WriteFault same so begins why input to = absurd why
 unanswered_stops end finished text cs c s out (ends.TooLong kind) same so begins why input to = absurd why
 
@@ -143,3 +144,69 @@ limit_ends text cs s out so begins no_more no_fault =
 -- the same of an equal text
 pub ends_at : (end : TextEnd) (text fed : List ℕ) (out : SinkSeen) (e : Exit) → text ≡ fed → EndsSo end text out e → EndsSo end fed out e
 ends_at end text fed out e same ends = subst (λ t. EndsSo end t out e) same ends
+
+-- a reply, or the exit where there is none
+pub reply_is : (r : Result Reply Stop) (q : Result Reply Exit) (P : Reply → Type 0) → IfOk q (λ x. r ≡ Ok x) → IfOk r P → IfOk q P
+reply_is r (Ok x) P same h = subst (λ y. IfOk y P) same h
+reply_is r (Err e) P same h = tt
+
+-- one command more was answered
+pub answered_next : (first mid new : Option (List ℕ)) (text : List ℕ) (cs now : List Command) (s t : State) → HasAnswered first mid cs s → AnswersNext text cs now s t mid new → HasAnswered first new now t
+answered_next first mid new text cs now s t so next =
+    subst (λ ds. HasAnswered first new ds t) (sym next.more)
+    (answered_more first mid new cs s t next.command next.replied.bytes so next.replied.goes_on next.replied.step next.replied.grows)
+
+-- the text still begins with what was answered
+pub begins_next : (mid new : Option (List ℕ)) (text : List ℕ) (cs now : List Command) (s t : State) → AnswersNext text cs now s t mid new → BeginsWith text now
+begins_next mid new text cs now s t next = subst (BeginsWith text) (sym next.more) next.begins
+
+-- fewer commands are left
+pub fewer_left : (mid new : Option (List ℕ)) (text : List ℕ) (cs now : List Command) (s t : State) → AnswersNext text cs now s t mid new → length text - length now < length text - length cs
+fewer_left mid new text cs now s t next =
+    omega (arith, few text now (begins_next mid new text cs now s t next), ap length next.more, length-append cs (next.command ∷ []))
+
+-- what was answered before nothing more was written
+still_answered : (first mid new : Option (List ℕ)) (cs : List Command) (s : State) → new ≡ mid → HasAnswered first mid cs s → HasAnswered first new cs s
+still_answered first mid new cs s same so = subst (λ w. HasAnswered first w cs s) (sym same) so
+
+-- the program ends at a turn that found an `exit`
+pub leaving_ends : (end : TextEnd) (finished : Bool) (text : List ℕ) (cs : List Command) (s : State) (out : SinkSeen) (mid : Option (List ℕ)) → finished ≡ is_finished end
+    → HasAnswered out.old mid cs s → LeavesNext text cs mid out.new → EndsSo end text out ends.Done
+leaving_ends end finished text cs s out mid same so next =
+    left_ends end finished text cs next.command s out same (still_answered out.old mid out.new cs s next.leaves.same so) next.begins next.leaves.exits
+
+-- the reply to a command wasn't written whole
+unreplied_ends : (end : TextEnd) (finished : Bool) (text : List ℕ) (cs : List Command) (c : Command) (s : State) (out : SinkSeen) (mid : Option (List ℕ)) (between : ℕ) (e : Exit)
+    → finished ≡ is_finished end → HasAnswered out.old mid cs s → BeginsWith text (cs ++ c ∷ []) → out.before ≤ between
+    → IsUnreplied s c (record { old = mid; new = out.new; before = between; after = out.after }) e → EndsSo end text out e
+unreplied_ends end finished text cs c s out mid between e same so begins later (inl why) =
+    unanswered_ends end finished text cs c s out e same (still_answered out.old mid out.new cs s why.0 so) begins why.1
+unreplied_ends end finished text cs c s out mid between e same so begins later (inr cut) =
+    subst (EndsSo end text out) (sym cut.0)
+    (cut_ends end finished text cs c s cut.1.next cut.1.bytes out mid between same so begins cut.1.step later cut.1.rose cut.1.part)
+
+-- the program ends at a turn that failed
+pub failed_ends : (end : TextEnd) (finished : Bool) (text : List ℕ) (cs : List Command) (s : State) (out : SinkSeen) (mid : Option (List ℕ)) (between : ℕ) (e : Exit)
+    → finished ≡ is_finished end → HasAnswered out.old mid cs s → BeginsWith text cs → out.before ≤ between
+    → IsFailed finished text cs s (record { old = mid; new = out.new; before = between; after = out.after }) e → EndsSo end text out e
+failed_ends end finished text cs s out mid between e same so begins later (inl why) =
+    unread_ends end finished text cs s out e same (still_answered out.old mid out.new cs s why.0 so) begins why.1
+failed_ends end finished text cs s out mid between e same so begins later (inr cut) =
+    unreplied_ends end finished text cs cut.command s out mid between e same so cut.begins later cut.why
+
+-- the program ends at the end of the input
+pub whole_ends : (finished : Bool) (text : List ℕ) (cs : List Command) (s : State) (out : SinkSeen) (mid : Option (List ℕ)) → finished ≡ true
+    → HasAnswered out.old mid cs s → IsReadOut finished text cs mid out.new → EndsSo text_end.InputEnd text out ends.Done
+whole_ends finished text cs s out mid same so over = read_ends text cs s out (still_answered out.old mid out.new cs s over.same so) (over.whole same)
+
+-- the program ends at a failed read
+pub fault_ends : (finished : Bool) (text : List ℕ) (cs : List Command) (s : State) (out : SinkSeen) (mid : Option (List ℕ)) → finished ≡ false
+    → HasAnswered out.old mid cs s → BeginsWith text cs → IsReadOut finished text cs mid out.new → EndsSo text_end.ReadFault text out ends.ReadFault
+fault_ends finished text cs s out mid same so begins over =
+    broken_ends text cs s out (still_answered out.old mid out.new cs s over.same so) begins (over.waiting same) (subst (λ f. HasNoFault f text cs) same over.right)
+
+-- the program ends at the limit
+pub full_ends : (finished : Bool) (text : List ℕ) (cs : List Command) (s : State) (out : SinkSeen) (mid : Option (List ℕ)) → finished ≡ false
+    → HasAnswered out.old mid cs s → BeginsWith text cs → IsReadOut finished text cs mid out.new → EndsSo text_end.Limit text out (ends.TooLong long.Bytes)
+full_ends finished text cs s out mid same so begins over =
+    limit_ends text cs s out (still_answered out.old mid out.new cs s over.same so) begins (over.waiting same) (subst (λ f. HasNoFault f text cs) same over.right)

@@ -4,9 +4,11 @@ use Rattle.std.proofs.lemmas.Option.{same_Some}
 use Rattle.y_io.specs.Outside.{Reads as Gets, Rose}
 use Rattle.yices_grammar.specs.declared.Place.{Place}
 use Rattle.yices_grammar.specs.Tokens.{Token, Piece, white, comment, token, open_bracket, close_bracket, typing_mark, word, string, Cuts, place_behind, tokens_from, lexeme_bytes, start}
-use Rattle.yices_grammar.specs.Grammar.{Command, SpellsCommands, closed_at}
+use Rattle.yices_grammar.specs.Commands.{Command}
+use Rattle.yices_grammar.specs.Reading.{Gives, SpellsCommand, SpellsCommands}
 use Rattle.yices_grammar.specs.Texts.{BeginsWith}
-use Rattle.yices_session.specs.Steps.{IsCommand}
+use Rattle.yices_commands.specs.declared.command.Command as code
+use Rattle.yices_text.specs.View.{says}
 use Rattle.yices_cli.specs.Headline.{SourceSeen, IsFront, HoldsMore, IsGot}
 use Rattle.yices_cli.specs.declared.reading.TextEnd.{TextEnd}
 use Rattle.yices_cli.specs.declared.reading.TextEnd.TheVariants as text_end
@@ -132,21 +134,23 @@ tokens_few at (token (word w) ∷ ps) text rest (behind, is, piece, cut) =
 tokens_few at (token (string s) ∷ ps) text rest (behind, is, piece, cut) =
     omega (arith, ap length is, length-append (s ++ 34 ∷ []) behind, tokens_few (place_behind at (lexeme_bytes (string s))) ps behind rest cut)
 
+-- a command has a token
+some_tokens : (c : Command) (ts : List Token) → SpellsCommand c ts → 0 < length ts
+unfolding Gives
+some_tokens c [] spelled = absurd spelled
+some_tokens c (t ∷ ts) spelled = omega arith
+
 commands_few : (cs : List Command) (ts : List Token) → SpellsCommands cs ts → length cs ≤ length ts
 commands_few [] ts spelled = omega arith
-commands_few (c ∷ cs) ts (first, rest, (inner, close_at, action, one), more, is) =
-    omega (arith, ap length is, length-append first rest, ap length one, length-append inner (closed_at close_at ∷ []), commands_few cs rest more)
+commands_few (c ∷ cs) ts (first, rest, one, more, is) = omega (arith, ap length is, length-append first rest, some_tokens c first one, commands_few cs rest more)
 
 pub few : (text : List ℕ) (cs : List Command) → BeginsWith text cs → length cs ≤ length text
 few text cs (rest, ps, cut, are) = omega (arith, commands_few cs (tokens_from start ps) are.spelled, tokens_few start ps text rest cut)
 
--- the last command of a list that is spelled is one of the language
-last_command : (cs : List Command) (c : Command) (ts : List Token) → SpellsCommands (cs ++ c ∷ []) ts → IsCommand c
-last_command [] c ts (first, rest, one, more, is) = (first, one)
-last_command (d ∷ cs) c ts (first, rest, one, more, is) = last_command cs c rest more
-
-pub is_command : (text : List ℕ) (cs : List Command) (c : Command) → BeginsWith text (cs ++ c ∷ []) → IsCommand c
-is_command text cs c (rest, ps, cut, are) = last_command cs c (tokens_from start ps) are.spelled
+-- what commands say are as many
+pub length_says : (cs : List code.Command) → length (says cs) ≡ length cs
+length_says [] = refl
+length_says (c ∷ cs) = ap suc (length_says cs)
 
 -- each text begins with no commands
 pub begins_none : (text : List ℕ) (cs : List Command) → cs ≡ [] → BeginsWith text cs

@@ -2,13 +2,12 @@
 use Rattle.std.specs.Prelude.{◌≡◌, ℕ, ◌<◌, ◌≤◌, Bool, true, false, List, [], ◌∷◌, ◌++◌, Option, Some, None, ◌⊎◌, length, take}
 use Rattle.y_io.specs.Outside.{Rose, Grows, GrowsByPart}
 use Rattle.yices_grammar.specs.declared.Place.{Place}
-use Rattle.yices_grammar.specs.Grammar.{Command, exit}
+use Rattle.yices_grammar.specs.Commands.{exit, Command}
 use Rattle.yices_grammar.specs.Texts.{Reads, BeginsWith}
-use Rattle.yices_grammar.specs.Faults.{Fault, FaultKind, nesting, not_built, HasFault}
+use Rattle.yices_grammar.specs.Faults.{Fault, FaultKind, nesting, HasFault}
 use Rattle.yices_text.specs.View.{HoldsNoMore, kind_of}
 use Rattle.yices_text.specs.declared.error.SyntaxError.{SyntaxError}
 use Rattle.yices_session.specs.declared.refusal.Refusal.{Refusal}
-use Rattle.yices_session.specs.declared.refusal.Refusal.TheVariants as refusal
 use Rattle.yices_session.specs.State.{State, empty_state}
 use Rattle.yices_session.specs.Steps.{Runs, Step, refusal_of}
 use Rattle.yices_cli.specs.declared.exit.Exit.{Exit}
@@ -181,7 +180,7 @@ Stops words input out exit.NoMemory = Grows out.old out.new [] ⊎ ((words ≡ 0
 Stops words input out (exit.Syntax e) = (words ≡ 0) × IsFaulty input out (kind_of e.kind) e.place
 Stops words input out exit.ReadFault = (words ≡ 0) × IsReadFault input out
 Stops words input out (exit.Usage k) = (0 < words) × (k ≡ 1) × Grows out.old out.new []
-Stops words input out (exit.Refused at why) = (words ≡ 0) × (IsRefused input out at why ⊎ ((why ≡ refusal.NotBuilt) × IsFaulty input out not_built at))
+Stops words input out (exit.Refused at why) = (words ≡ 0) × IsRefused input out at why
 Stops words input out exit.WriteFault = ⊥
 Stops words input out (exit.TooLong kind) = (words ≡ 0) × IsTooLong input out kind
 

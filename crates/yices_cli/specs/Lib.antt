@@ -1,3 +1,4 @@
 pub mod Exits
 pub mod Headline
 pub mod Parts
+pub mod Turns

@@ -1,11 +1,10 @@
 -- What the parts of the program say: reading the text, answering its commands, writing the line of the exit.
 use Rattle.std.specs.Prelude.{◌≡◌, ℕ, Bool, true, false, ◌⊎◌, List, Option, Some, length, take}
 use Rattle.y_io.specs.Outside.{Rose, Grows, GrowsByPart}
-use Rattle.yices_grammar.specs.Grammar.{Command}
+use Rattle.yices_grammar.specs.Commands.{Command}
 use Rattle.yices_grammar.specs.declared.Place.{Place}
-use Rattle.yices_grammar.specs.Faults.{Fault, FaultKind, nesting, not_built, HasFault}
+use Rattle.yices_grammar.specs.Faults.{Fault, FaultKind, nesting, HasFault}
 use Rattle.yices_text.specs.View.{kind_of}
-use Rattle.yices_session.specs.declared.refusal.Refusal.TheVariants as refusal
 use Rattle.yices_session.specs.State.{State}
 use Rattle.yices_session.specs.Steps.{refusal_of}
 use Rattle.yices_cli.specs.declared.exit.Exit.{Exit}
@@ -55,7 +54,7 @@ IsUnread finished text commands exit.NoMemory = Unit {0}
 IsUnread finished text commands (exit.Syntax e) = HasFaultAt finished text commands (kind_of e.kind) e.place
 IsUnread finished text commands exit.ReadFault = ⊥
 IsUnread finished text commands (exit.Usage k) = ⊥
-IsUnread finished text commands (exit.Refused at why) = (why ≡ refusal.NotBuilt) × HasFaultAt finished text commands not_built at
+IsUnread finished text commands (exit.Refused at why) = ⊥
 IsUnread finished text commands exit.WriteFault = ⊥
 IsUnread finished text commands (exit.TooLong long.Bytes) = ⊥
 IsUnread finished text commands (exit.TooLong (long.Nesting at)) = HasFaultAt finished text commands nesting at

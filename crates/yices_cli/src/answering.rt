@@ -1,23 +1,37 @@
 //! Answers the commands of a text and writes the replies.
 
-ghost use Rattle.std.specs.Prelude.{◌≡◌, ◌≤◌, ◌++◌, ℕ, [], true, false, None, length, take, OnOk, IfOk, IfErr, OnErr};
+ghost use Rattle.std.specs.Prelude.{◌≡◌, ◌≤◌, ◌++◌, ℕ, [], true, false, None, Ok, length, take, OnOk, IfOk, IfErr, OnErr};
 ghost use Rattle.y_io.specs.Outside.{Rose, Grows, GrowsByPart};
-ghost use Rattle.yices_grammar.specs.Grammar.{exit};
+ghost use Rattle.yices_grammar.specs.Commands as grammar;
+ghost use Rattle.yices_grammar.specs.Commands.{exit};
 ghost use Rattle.yices_grammar.specs.Texts.{Reads, BeginsWith};
-ghost use Rattle.yices_text.specs.Plain.{plain_action, plain_command};
-ghost use Rattle.yices_text.specs.View.{listed, HoldsNoMore};
-ghost use Rattle.yices_session.specs.Held.{state_of};
+ghost use Rattle.yices_commands.specs.Plain.{plain_action, plain_command};
+ghost use Rattle.yices_text.specs.View.{says, listed, HoldsNoMore};
+ghost use Rattle.yices_session.specs.Held.{state_of, IsStopped};
 ghost use Rattle.yices_session.specs.Replies.{reply_text};
-ghost use Rattle.yices_session.specs.Steps.{IsCommand, Step};
+ghost use Rattle.yices_session.specs.State.{State};
+ghost use Rattle.yices_session.specs.Steps.{Step};
+ghost use Rattle.yices_cli.specs.declared.answering.Turn.TheVariants.{End, Left, On};
 ghost use Rattle.yices_cli.specs.declared.exit.Exit.TheVariants.{Done, WriteFault};
 ghost use Rattle.yices_cli.specs.Parts.{is_finished, EndsSo, IsUnanswered, IsUnread, HasNoFault};
+ghost use Rattle.yices_cli.specs.Turns.{IsReplied, IsLeaving, IsUnreplied, AnswersNext, LeavesNext, IsReadOut, IsFailed};
 
 use crate::exit::{Exit, LongKind};
 use crate::reading::TextEnd;
 use std::alloc::Global;
 use y_io::{Sink, write_all};
-use yices_session::{Refusal, Reply, Session, Stop};
+use yices_session::{Reply, Session, Stop};
 use yices_text::{Action, Command, ReadError, Reader};
+
+// What a turn of the run came to.
+enum Turn {
+    // The text that was fed holds no more whole command, and no fault.
+    End,
+    // The command was `exit`.
+    Left,
+    // The command was answered, and its reply written.
+    On,
+}
 
 /// Answers the commands of the text that was fed, from an empty session on, each before the next is
 /// read, and writes each reply whole before the next command. It takes O(n) steps for the n bytes of
@@ -34,12 +48,12 @@ pub fn answer_all<K: Sink>(
     ensures stopped { IfErr result (EndsSo end reader.old.fed (record { old = K.written out.old; new = K.written out.new; before = K.faults out.old; after = K.faults out.new })) }
 {
     let mut session = Session::new(alloc);
-    'commands: while let Some(command) = next(reader)? {
-        if is_exit(&command) {
-            return Ok(());
+    'commands: loop {
+        match take_turn(reader, &mut session, out)? {
+            Turn::On => {}
+            Turn::Left => return Ok(()),
+            Turn::End => break,
         }
-        let reply = answer(&mut session, command)?;
-        write_reply(out, reply)?;
     }
     match end {
         TextEnd::InputEnd => Ok(()),
@@ -48,22 +62,56 @@ pub fn answer_all<K: Sink>(
     }
 }
 
+// Answers the next command of the text, where there is one.
+fn take_turn<K: Sink>(reader: &mut Reader, session: &mut Session, out: &mut K) -> Result<Turn, Exit>
+    ensures fed { reader.new.fed ≡ reader.old.fed }
+    ensures finished { reader.new.finished ≡ reader.old.finished }
+    ensures later { K.faults out.old ≤ K.faults out.new }
+    ensures on { IfOk result (λ t. t ≡ On → AnswersNext reader.old.fed (says reader.old.answered) (says reader.new.answered) (state_of session.old) (state_of session.new) (K.written out.old) (K.written out.new)) }
+    ensures left { IfOk result (λ t. t ≡ Left → LeavesNext reader.old.fed (says reader.old.answered) (K.written out.old) (K.written out.new)) }
+    ensures end { IfOk result (λ t. t ≡ End → IsReadOut reader.old.finished reader.old.fed (says reader.old.answered) (K.written out.old) (K.written out.new)) }
+    ensures failed { IfErr result (IsFailed reader.old.finished reader.old.fed (says reader.old.answered) (state_of session.old) (record { old = K.written out.old; new = K.written out.new; before = K.faults out.old; after = K.faults out.new })) }
+{
+    let Some(command) = next(reader)? else {
+        return Ok(Turn::End);
+    };
+    if act(session, command, out)? {
+        Ok(Turn::On)
+    } else {
+        Ok(Turn::Left)
+    }
+}
+
+// Answers a command and writes its reply, and says that the run goes on; at `exit` it does neither.
+fn act<K: Sink>(session: &mut Session, command: Command, out: &mut K) -> Result<bool, Exit>
+    ensures later { K.faults out.old ≤ K.faults out.new }
+    ensures on { IfOk result (λ on. on ≡ true → IsReplied (state_of session.old) (plain_command command) (K.written out.old) (K.written out.new) (state_of session.new)) }
+    ensures left { IfOk result (λ on. on ≡ false → IsLeaving (plain_command command) (K.written out.old) (K.written out.new)) }
+    ensures failed { IfErr result (IsUnreplied (state_of session.old) (plain_command command) (record { old = K.written out.old; new = K.written out.new; before = K.faults out.old; after = K.faults out.new })) }
+{
+    if is_exit(&command) {
+        return Ok(false);
+    }
+    let reply = answer(session, command)?;
+    write_reply(out, reply)?;
+    Ok(true)
+}
+
 // The next command of the text.
 fn next(reader: &mut Reader) -> Result<Option<Command>, Exit>
     ensures fed { reader.new.fed ≡ reader.old.fed }
     ensures finished { reader.new.finished ≡ reader.old.finished }
     ensures answered { IfOk result (λ r. reader.new.answered ≡ reader.old.answered ++ listed r) }
-    ensures got { IfOk result (λ r. BeginsWith reader.old.fed (reader.old.answered ++ listed r)) }
-    ensures whole { IfOk result (λ r. r ≡ None → reader.old.finished ≡ true → Reads reader.old.fed reader.old.answered) }
-    ensures waiting { IfOk result (λ r. r ≡ None → reader.old.finished ≡ false → HoldsNoMore reader.old.fed reader.old.answered) }
-    ensures right { OnOk result (HasNoFault reader.old.finished reader.old.fed reader.old.answered) }
-    ensures unread { IfErr result (IsUnread reader.old.finished reader.old.fed reader.old.answered) }
+    ensures got { IfOk result (λ r. BeginsWith reader.old.fed (says (reader.old.answered ++ listed r))) }
+    ensures whole { IfOk result (λ r. r ≡ None → reader.old.finished ≡ true → Reads reader.old.fed (says reader.old.answered)) }
+    ensures waiting { IfOk result (λ r. r ≡ None → reader.old.finished ≡ false → HoldsNoMore reader.old.fed (says reader.old.answered)) }
+    ensures right { OnOk result (HasNoFault reader.old.finished reader.old.fed (says reader.old.answered)) }
+    ensures unread { IfErr result (IsUnread reader.old.finished reader.old.fed (says reader.old.answered)) }
 {
     match reader.next() {
         Ok(command) => Ok(command),
         Err(ReadError::Syntax(error)) => Err(Exit::Syntax(error)),
         Err(ReadError::Nesting(place)) => Err(Exit::TooLong(LongKind::Nesting(place))),
-        Err(ReadError::NotBuilt(place)) => Err(Exit::Refused(place, Refusal::NotBuilt)),
         Err(ReadError::NoMemory) => Err(Exit::NoMemory),
     }
 }
@@ -78,14 +126,30 @@ fn is_exit(command: &Command) -> bool
 
 // Answers a command, or says which exit it is without a reply.
 fn answer(session: &mut Session, command: Command) -> Result<Reply, Exit>
-    requires { IsCommand (plain_command command) }
     ensures step { IfOk result (λ r. Step (state_of session.old) (plain_action command.action) (reply_text r) (state_of session.new)) }
     ensures cause { IfErr result (IsUnanswered (state_of session.old) (plain_command command)) }
 {
-    match session.answer(&command) {
+    outcome(session.answer(&command))
+}
+
+// The reply to a command, or which exit the program ends with where it has none.
+fn outcome(answer: Result<Reply, Stop>) -> Result<Reply, Exit>
+    ensures reply { IfOk result (λ r. answer ≡ Ok r) }
+    ensures stop { (s : State) (c : grammar.Command) → IfErr answer (IsStopped s c) → IfErr result (IsUnanswered s c) }
+{
+    match answer {
         Ok(reply) => Ok(reply),
-        Err(Stop::Refused(place, refusal)) => Err(Exit::Refused(place, refusal)),
-        Err(Stop::NoMemory) => Err(Exit::NoMemory),
+        Err(stop) => Err(exit_of(stop)),
+    }
+}
+
+// The exit where a command has no reply.
+fn exit_of(stop: Stop) -> Exit
+    ensures { (s : State) (c : grammar.Command) → IsStopped s c stop → IsUnanswered s c result }
+{
+    match stop {
+        Stop::Refused(place, refusal) => Exit::Refused(place, refusal),
+        Stop::NoMemory => Exit::NoMemory,
     }
 }
 

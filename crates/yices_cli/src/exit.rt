@@ -30,7 +30,7 @@ pub enum Exit {
     ReadFault,
     /// The word with that number, counted from 1, is at fault.
     Usage(usize),
-    /// A command, or a part of the language that isn't built, was refused for a cause at that place.
+    /// A command was refused for a cause at that place.
     Refused(Place, Refusal),
     /// The output failed, or the line of another cause could not be written.
     WriteFault,

@@ -1,8 +1,37 @@
 -- The forms of literals, and the words of the whole language.
 use Rattle.std.specs.Prelude.{ℕ, Bool, true, false, not, ◌&&◌, ◌||◌, ◌==◌, List, [], ◌∷◌, nat_le, nat_lt, drop, if◌then◌else◌, codes}
-use Rattle.std.specs.List.{list_all, prefix_len}
-use Rattle.yices_grammar.specs.Tokens.{Lexeme, open_bracket, close_bracket, typing_mark, word, string}
-use Rattle.yices_grammar.specs.Grammar.{is_digit, begins_as_literal, is_among, term_words}
+use Rattle.std.specs.List.{list_all, list_any, prefix_len}
+use Rattle.std.specs.Str.{bytes_eq}
+use Rattle.yices_grammar.specs.Tokens.{Lexeme, open_bracket, close_bracket, typing_mark, word, string, begins_with}
+
+-- the words that are no names
+abbrev pub term_words : List (List ℕ)
+term_words =
+    codes "true" ∷ codes "false" ∷ codes "not" ∷ codes "and" ∷ codes "or" ∷ codes "xor" ∷ codes "=>" ∷ codes "<=>"
+    ∷ codes "if" ∷ codes "ite" ∷ codes "=" ∷ codes "/=" ∷ codes "distinct" ∷ codes "let" ∷ codes "forall" ∷ codes "update"
+    ∷ codes "mk-bv" ∷ codes "+" ∷ codes "-" ∷ codes "*" ∷ codes "/" ∷ codes "<" ∷ codes "<=" ∷ codes ">" ∷ codes ">="
+    ∷ codes "bv-add" ∷ codes "bv-mul" ∷ codes "bv-sub" ∷ codes "bv-neg" ∷ codes "bv-not" ∷ codes "bv-div" ∷ codes "bv-rem"
+    ∷ codes "bv-sdiv" ∷ codes "bv-srem" ∷ codes "bv-smod" ∷ codes "bv-and" ∷ codes "bv-or" ∷ codes "bv-xor"
+    ∷ codes "bv-shl" ∷ codes "bv-lshr" ∷ codes "bv-ashr" ∷ codes "bv-concat" ∷ codes "bv-extract"
+    ∷ codes "bv-shift-left0" ∷ codes "bv-shift-right0" ∷ codes "bv-sign-extend" ∷ codes "bv-zero-extend"
+    ∷ codes "bv-ge" ∷ codes "bv-gt" ∷ codes "bv-le" ∷ codes "bv-lt" ∷ codes "bv-sge" ∷ codes "bv-sgt" ∷ codes "bv-sle" ∷ codes "bv-slt" ∷ []
+
+-- the word is among the words
+abbrev pub is_among : List (List ℕ) → List ℕ → Bool
+is_among words w = list_any (bytes_eq w) words
+
+-- a digit of a numeral
+abbrev pub is_digit : ℕ → Bool
+is_digit b = nat_le 48 b && nat_le b 57
+
+-- a word that begins with a digit, or with a sign and then a digit, is a literal
+abbrev pub begins_as_literal : List ℕ → Bool
+begins_as_literal [] = false
+begins_as_literal (b ∷ bs) = is_digit b || ((b == 43 || b == 45) && begins_with is_digit bs)
+
+-- a name is a word that is no literal and no word of terms
+abbrev pub is_name : List ℕ → Bool
+is_name w = not (begins_as_literal w) && not (is_among term_words w)
 
 -- one byte or more, and each passes the test
 abbrev pub are_some : (ℕ → Bool) → List ℕ → Bool
@@ -31,7 +60,7 @@ is_unsigned w = nat_lt 0 (prefix_len is_digit w) && is_number_end (drop (prefix_
 abbrev pub is_number : List ℕ → Bool
 is_number w = is_unsigned (unsigned w)
 
--- a binary digit, and a hexadecimal digit of either case
+-- a binary digit
 abbrev pub is_bit : ℕ → Bool
 is_bit b = b == 48 || b == 49
 

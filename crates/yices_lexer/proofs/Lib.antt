@@ -1,5 +1,4 @@
 pub mod Cutting
-pub mod Finding
 pub mod Strings
 pub mod Breaking
-pub mod Expecting
+pub mod Bytewise

@@ -13,13 +13,12 @@ use Rattle.node_encoding.specs.declared.Node.TheVariants as node_of
 use Rattle.node_encoding.specs.Nodes.{tree_at, op_of, arguments_of}
 use Rattle.node_encoding.proofs.TreeLaws.{tree_at_older, tree_at_new}
 use Rattle.yices_grammar.specs.declared.Place.{Place}
-use Rattle.yices_grammar.specs.Grammar.{Expr, Exprs, true_word, false_word, name, operation, exprs}
-use Rattle.yices_text.specs.declared.command.Expr as code
-use Rattle.yices_text.specs.declared.command.Expr.{out-Expr}
-use Rattle.yices_text.specs.declared.command.ExprForm.{Op}
+use Rattle.yices_grammar.specs.Commands.{Expr, expr_at, Exprs, no_exprs, more_exprs, true_word, false_word, name, operation, exprs}
+use Rattle.yices_commands.specs.declared.command.Expr as code
+use Rattle.yices_commands.specs.declared.command.Expr.{out-Expr}
+use Rattle.yices_commands.specs.declared.command.ExprForm.TheVariants.{Op}
 use Rattle.yices_session.proofs.PlainLaws.{plain_op}
-use Rattle.yices_text.specs.Plain.{plain}
-use Rattle.yices_grammar.specs.Grammar as grammar
+use Rattle.yices_commands.specs.Plain.{plain}
 use Rattle.yices_session.specs.declared.refusal.Stop.{Stop}
 use Rattle.yices_session.specs.declared.refusal.Stop.TheVariants as stop
 use Rattle.yices_session.specs.State.{Named, Cause, known, join, over, op_named, takes, tree_named, tree_of, trees_of}
@@ -113,7 +112,7 @@ pub new_within : (old new : List Node) (n : Node) (k : ℕ) → new ≡ old ++ n
 new_within old new n k is here = omega (arith, ap length is, length-append old (n ∷ []), here)
 
 pub built_true : (ns : List (List ℕ × Binding)) (old new : List Node) (e : Expr) (at : Place) (k : ℕ)
-    → e ≡ true_word at → new ≡ old ++ node_of.True ∷ [] → k ≡ length old → Builds ns old new e k
+    → e ≡ expr_at at true_word → new ≡ old ++ node_of.True ∷ [] → k ≡ length old → Builds ns old new e k
 unfolding tree_of
 built_true ns old new e at k form is here = record {
   extends = extends_one old new node_of.True tt is;
@@ -122,7 +121,7 @@ built_true ns old new e at k form is here = record {
 }
 
 pub built_false : (ns : List (List ℕ × Binding)) (old new : List Node) (e : Expr) (at : Place) (k : ℕ)
-    → e ≡ false_word at → new ≡ old ++ node_of.False ∷ [] → k ≡ length old → Builds ns old new e k
+    → e ≡ expr_at at false_word → new ≡ old ++ node_of.False ∷ [] → k ≡ length old → Builds ns old new e k
 unfolding tree_of
 built_false ns old new e at k form is here = record {
   extends = extends_one old new node_of.False tt is;
@@ -131,7 +130,7 @@ built_false ns old new e at k form is here = record {
 }
 
 pub built_name : (ns : List (List ℕ × Binding)) (old : List Node) (e : Expr) (at : Place) (w : List ℕ) (k : ℕ)
-    → e ≡ name at w → Finds ns old at w k → Builds ns old old e k
+    → e ≡ expr_at at (name w) → Finds ns old at w k → Builds ns old old e k
 unfolding tree_of
 built_name ns old e at w k form found = record {
   extends = extends_same old;
@@ -140,7 +139,7 @@ built_name ns old e at w k form found = record {
 }
 
 pub unbuilt_name : (ns : List (List ℕ × Binding)) (old : List Node) (e : Expr) (at : Place) (w : List ℕ) (s : Stop)
-    → e ≡ name at w → IsUnbuilt (known at w (tree_named (names_in old ns) w)) s → IsUnbuilt (tree_of (names_in old ns) e) s
+    → e ≡ expr_at at (name w) → IsUnbuilt (known at w (tree_named (names_in old ns) w)) s → IsUnbuilt (tree_of (names_in old ns) e) s
 unfolding tree_of
 unbuilt_name ns old e at w s form u = rw form u
 
@@ -187,7 +186,7 @@ operator_node (node_of.Eq a b) w is = tt
 operator_node (node_of.Distinct args) w is = tt
 
 pub built_op : (ns : List (List ℕ × Binding)) (old mid new : List Node) (e : Expr) (at : Place) (w : List ℕ) (es : Exprs) (ks : List ℕ) (n : Node) (k : ℕ)
-    → e ≡ operation at w es → BuildsAll ns old mid es ks → takes w (length ks) ≡ true → op_of n ≡ op_named w → arguments_of n ≡ ks → new ≡ mid ++ n ∷ [] → k ≡ length mid → Builds ns old new e k
+    → e ≡ expr_at at (operation w es) → BuildsAll ns old mid es ks → takes w (length ks) ≡ true → op_of n ≡ op_named w → arguments_of n ≡ ks → new ≡ mid ++ n ∷ [] → k ≡ length mid → Builds ns old new e k
 unfolding tree_of
 built_op ns old mid new e at w es ks n k form all takes_so op args is here = record {
   extends = extends_on old mid new all.extends (extends_one mid new n (operator_node n w op) is);
@@ -201,7 +200,7 @@ built_op ns old mid new e at w es ks n k form all takes_so op args is here = rec
 
 -- the wrong number of arguments
 pub unbuilt_arity : (ns : List (List ℕ × Binding)) (old mid : List Node) (e : Expr) (at : Place) (w : List ℕ) (es : Exprs) (ks : List ℕ) (n : ℕ)
-    → e ≡ operation at w es → BuildsAll ns old mid es ks → n ≡ length ks → takes w n ≡ false → IsUnbuilt (tree_of (names_in old ns) e) (stop.Refused at (refusal.BadArity n))
+    → e ≡ expr_at at (operation w es) → BuildsAll ns old mid es ks → n ≡ length ks → takes w n ≡ false → IsUnbuilt (tree_of (names_in old ns) e) (stop.Refused at (refusal.BadArity n))
 unfolding tree_of
 unbuilt_arity ns old mid e at w es ks n form all same takes_not =
     ap cause_in (ap (tree_of (names_in old ns)) form ∙ ap (over at w) all.trees ∙ over_not_taken at w (trees (map (tree_at mid) ks)) n (counted mid ks ∙ sym same) takes_not)
@@ -212,7 +211,7 @@ over_unbuilt at w (Ok ts) (stop.Refused here why) u = absurd (cc u)
 over_unbuilt at w (Err x) (stop.Refused here why) u = u
 
 pub unbuilt_op : (ns : List (List ℕ × Binding)) (old : List Node) (e : Expr) (at : Place) (w : List ℕ) (es : Exprs) (s : Stop)
-    → e ≡ operation at w es → IsUnbuilt (trees_of (names_in old ns) es) s → IsUnbuilt (tree_of (names_in old ns) e) s
+    → e ≡ expr_at at (operation w es) → IsUnbuilt (trees_of (names_in old ns) es) s → IsUnbuilt (tree_of (names_in old ns) e) s
 unfolding tree_of
 unbuilt_op ns old e at w es s form u = rw form (over_unbuilt at w (trees_of (names_in old ns) es) s u)
 
@@ -237,9 +236,9 @@ within_push n [] k h here = (here, h)
 within_push n (j ∷ ks) k h here = (h.0, within_push n ks k h.1 here)
 
 -- what is left from index i on begins with the expression there
-left_at : (xs : List code.Expr) (i : ℕ) (x : code.Expr) → i < length xs → x ≡ get_or xs i x
-    → exprs (map plain (drop i xs)) ≡ grammar.more (plain x) (exprs (map plain (drop (i + 1) xs)))
-left_at xs i x h is = at_drop_more (λ r. exprs (map plain r)) xs i x h ∙ ap (λ y. grammar.more (plain y) (exprs (map plain (drop (i + 1) xs)))) (sym is)
+pub left_at : (xs : List code.Expr) (i : ℕ) (x : code.Expr) → i < length xs → x ≡ get_or xs i x
+    → exprs (map plain (drop i xs)) ≡ more_exprs (plain x) (exprs (map plain (drop (i + 1) xs)))
+left_at xs i x h is = at_drop_more (λ r. exprs (map plain r)) xs i x h ∙ ap (λ y. more_exprs (plain y) (exprs (map plain (drop (i + 1) xs)))) (sym is)
 
 pub some_start : (ns : List (List ℕ × Binding)) (old : List Node) (es : Exprs) → BuildsSome ns old old es es []
 some_start ns old es = record { extends = extends_same old; within = tt; trees = refl }
@@ -300,14 +299,12 @@ some_named ns old new es rest ks some named = named_on old new (longer some.exte
 -- how many parts an expression has
 mutual
   pub size : Expr → ℕ
-  size (true_word at) = 1
-  size (false_word at) = 1
-  size (name at w) = 1
-  size (operation at op es) = 1 + sizes es
+  size (expr_at at (operation op es)) = 1 + sizes es
+  size (expr_at at _) = 1
 
   pub sizes : Exprs → ℕ
-  sizes grammar.none = 0
-  sizes (grammar.more e es) = 1 + size e + sizes es
+  sizes no_exprs = 0
+  sizes (more_exprs e es) = 1 + size e + sizes es
 
 -- the arguments of an expression have fewer
 pub size_arguments : (e : code.Expr) (w : List ℕ) (xs ys : List code.Expr) → (out-Expr e).form ≡ Op w xs → ys ≡ xs → sizes (exprs (map plain ys)) < size (plain e)

@@ -1,6 +1,6 @@
 -- What a session keeps from one command to the next.
 use Rattle.std.proofs.Common.{ℕ, zero, suc, ◌≡◌, ◌<◌, ◌≤◌, ◌+◌, ◌∙◌, List, [], ◌∷◌, ◌++◌, Option, Some, None, Result, Ok, Err, Bool, true, false, cond, is_some, length, take, drop, All, refl, sym, ap, subst, arith, inl, inr, length-append}
-use Rattle.std.specs.Prelude.{slice_get, codes, nat_le, IfOk, OnErr}
+use Rattle.std.specs.Prelude.{slice_get, codes, nat_le, IfOk, IfErr, OnErr}
 use Rattle.std.specs.List.{AllByRecursion}
 use Rattle.std.specs.Option.{option_map}
 use Rattle.std.proofs.lemmas.Option.{same_Some}
@@ -16,17 +16,18 @@ use Rattle.node_encoding.specs.declared.Node.TheVariants as node_of
 use Rattle.node_encoding.specs.declared.NodeLit.{NodeLit}
 use Rattle.node_encoding.specs.Nodes.{tree_at, number_of, number_at, entry_of, constants_in, booleans, MakesAll}
 use Rattle.theory_combine.specs.Answers.{IsSolution, IsConflict}
-use Rattle.yices_grammar.specs.Grammar.{Expr}
+use Rattle.yices_grammar.specs.Commands.{Expr, Action, Command}
 use Rattle.yices_grammar.specs.declared.Place.{Place}
 use Rattle.yices_session.specs.declared.names.Binding.{Binding}
 use Rattle.yices_session.specs.declared.refusal.Stop.{Stop}
 use Rattle.yices_session.specs.declared.refusal.Refusal.TheVariants as refusal
+use Rattle.yices_session.specs.Built.{is_built_action, is_built}
 use Rattle.yices_session.specs.State.{State, Cause, tree_named, tree_of}
 use Rattle.yices_session.specs.Bindings.{binding_of}
 use Rattle.yices_session.specs.declared.refusal.Reply.{Reply}
 use Rattle.yices_session.specs.Replies.{reply_text, value_reply}
-use Rattle.yices_session.specs.Held.{Held, names_in, named_in, formulas_in, levels_in, state_of, AreMarks, NumberBelow, IsSound, IsCause}
-use Rattle.yices_session.specs.Steps.{cause_in, Holds, level_of, added, with_name, next_constant, Declares, Defines, Asserts, Checks, Pushes, Pops, Evaluates, at_top, at_bottom, unless_used}
+use Rattle.yices_session.specs.Held.{Held, names_in, named_in, formulas_in, levels_in, state_of, AreMarks, NumberBelow, IsSound, IsCause, IsStopped}
+use Rattle.yices_session.specs.Steps.{cause_in, Holds, level_of, added, with_name, next_constant, Declares, Defines, Asserts, Checks, Pushes, Pops, Evaluates, at_top, at_bottom, unless_used, Does, Step, cause_of, refusal_of}
 use Rattle.yices_session.specs.Building.{Extends, Builds, IsUnbuilt}
 use Rattle.yices_session.proofs.Lookups.{unused, named_is_some}
 use Rattle.yices_session.proofs.Nodes.{Longer, longer, length_grows, tree_stays, names_stay, named_on, constants_on, numbers_below, all-append, map-push, length_mapped, leaf}
@@ -388,3 +389,19 @@ module _ (h g k : Held) (e : Expr) (n : ℕ) (new : List Node) (sound : IsSound 
       go : (r : Result Reply Stop) → OnErr r (state_of k ≡ state_of g)
       go (Ok x) = tt
       go (Err s) = same_at h g k new sound extends is seen
+
+-- a command that isn't built
+pub not_built : (s : State) (c : Command) → is_built c ≡ false → refusal_of s c ≡ Some (record { place = c.place; refusal = refusal.NotBuilt })
+not_built s c is = ap (λ b. cond b (cause_of s c.place c.action) (Some (let x : Cause = record { place = c.place; refusal = refusal.NotBuilt } in x))) is
+
+-- one that is
+built_refusal : (s : State) (c : Command) → is_built c ≡ true → refusal_of s c ≡ cause_of s c.place c.action
+built_refusal s c is = ap (λ b. cond b (cause_of s c.place c.action) (Some (let x : Cause = record { place = c.place; refusal = refusal.NotBuilt } in x))) is
+
+pub built_step : (s t : State) (a : Action) (r : Result Reply Stop) → is_built_action a ≡ true → IfOk r (λ x. Does s a (reply_text x) t) → IfOk r (λ x. Step s a (reply_text x) t)
+built_step s t a (Ok x) is does = record { built = is; does = does }
+built_step s t a (Err e) is does = tt
+
+pub built_stop : (s : State) (c : Command) (r : Result Reply Stop) → is_built c ≡ true → IfErr r (IsCause (cause_of s c.place c.action)) → IfErr r (IsStopped s c)
+built_stop s c (Ok x) is cause = tt
+built_stop s c (Err e) is cause = subst (λ o. IsCause o e) (sym (built_refusal s c is)) cause

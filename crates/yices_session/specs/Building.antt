@@ -5,7 +5,7 @@ use Rattle.y_tree.specs.Tree.{Tree, Trees, trees}
 use Rattle.node_encoding.specs.declared.Node.{Node}
 use Rattle.node_encoding.specs.Nodes.{tree_at}
 use Rattle.yices_grammar.specs.declared.Place.{Place}
-use Rattle.yices_grammar.specs.Grammar.{Expr, Exprs}
+use Rattle.yices_grammar.specs.Commands.{Expr, Exprs}
 use Rattle.yices_session.specs.declared.refusal.Stop.{Stop}
 use Rattle.yices_session.specs.declared.names.Binding.{Binding}
 use Rattle.yices_session.specs.State.{Cause, known, join, tree_named, tree_of, trees_of}

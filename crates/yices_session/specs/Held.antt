@@ -7,7 +7,7 @@ use Rattle.node_encoding.specs.declared.Node.{Node}
 use Rattle.node_encoding.specs.declared.Node.TheVariants as node_of
 use Rattle.node_encoding.specs.declared.NodeLit.{NodeLit}
 use Rattle.node_encoding.specs.Nodes.{tree_at, booleans}
-use Rattle.yices_grammar.specs.Grammar.{Command}
+use Rattle.yices_grammar.specs.Commands.{Command}
 use Rattle.yices_session.specs.declared.refusal.Stop.{Stop}
 use Rattle.yices_session.specs.declared.refusal.Stop.TheVariants as stop
 use Rattle.yices_session.specs.declared.names.Binding.{Binding}

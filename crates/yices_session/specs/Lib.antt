@@ -1,3 +1,4 @@
+pub mod Built
 pub mod State
 pub mod Steps
 pub mod Replies

@@ -5,8 +5,7 @@ use Rattle.y_tree.specs.Tree.{Op, truth, falsity, constant, negation, conjunctio
 use Rattle.y_tree.specs.Tree as tree
 use Rattle.y_tree.specs.Meaning.{Assignment}
 use Rattle.yices_grammar.specs.declared.Place.{Place}
-use Rattle.yices_grammar.specs.Grammar.{Expr, Exprs, true_word, false_word, name, operation}
-use Rattle.yices_grammar.specs.Grammar as grammar
+use Rattle.yices_grammar.specs.Commands.{Expr, expr_at, Exprs, no_exprs, more_exprs, true_word, false_word, name, operation}
 use Rattle.yices_session.specs.declared.refusal.Refusal.{Refusal}
 use Rattle.yices_session.specs.declared.refusal.Refusal.TheVariants as refusal
 
@@ -37,7 +36,7 @@ abbrev pub tree_named : List Named → List ℕ → Option Tree
 tree_named [] w = None
 tree_named (n ∷ ns) w = if bytes_eq w n.name then Some n.tree else tree_named ns w
 
--- the operator that a word of terms names
+-- the operator that a word of those built names
 abbrev pub op_named : List ℕ → Op
 op_named w = if bytes_eq w (codes "not") then negation else (if bytes_eq w (codes "and") then conjunction else disjunction)
 
@@ -61,14 +60,15 @@ abbrev pub over : Place → List ℕ → Result Trees Cause → Result Tree Caus
 over at op (Err e) = Err e
 over at op (Ok ts) = if takes op (count ts) then Ok (node (op_named op) ts) else Err (record { place = at; refusal = refusal.BadArity (count ts) })
 
--- the tree of an expression, its names replaced by their trees, or what is wrong first: arguments come before the whole
+-- the tree of an expression, its names replaced by their trees, or what is wrong first: arguments come before the whole; a form that isn't built has none
 unfoldable mutual
   pub tree_of : List Named → Expr → Result Tree Cause
-  tree_of names (true_word at) = Ok (node truth tree.none)
-  tree_of names (false_word at) = Ok (node falsity tree.none)
-  tree_of names (name at w) = known at w (tree_named names w)
-  tree_of names (operation at op es) = over at op (trees_of names es)
+  tree_of names (expr_at at true_word) = Ok (node truth tree.none)
+  tree_of names (expr_at at false_word) = Ok (node falsity tree.none)
+  tree_of names (expr_at at (name w)) = known at w (tree_named names w)
+  tree_of names (expr_at at (operation op es)) = over at op (trees_of names es)
+  tree_of names (expr_at at _) = Err (record { place = at; refusal = refusal.NotBuilt })
 
   pub trees_of : List Named → Exprs → Result Trees Cause
-  trees_of names grammar.none = Ok tree.none
-  trees_of names (grammar.more e es) = join (tree_of names e) (trees_of names es)
+  trees_of names no_exprs = Ok tree.none
+  trees_of names (more_exprs e es) = join (tree_of names e) (trees_of names es)

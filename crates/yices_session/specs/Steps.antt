@@ -6,9 +6,9 @@ use Rattle.y_tree.specs.Tree.{constant, Tree, node}
 use Rattle.y_tree.specs.Tree as tree
 use Rattle.y_tree.specs.Meaning.{Assignment, Satisfies}
 use Rattle.yices_grammar.specs.declared.Place.{Place}
-use Rattle.yices_grammar.specs.Tokens.{Token}
-use Rattle.yices_grammar.specs.Grammar.{Expr, Action, Command, declare, define, assert, check, push, pop, reset, show_model, eval, echo, exit, SpellsCommand}
+use Rattle.yices_grammar.specs.Commands.{Expr, Action, declare, define, assert, check, push, pop, reset, show_model, eval, echo, exit, Command}
 use Rattle.yices_session.specs.declared.refusal.Refusal.TheVariants as refusal
+use Rattle.yices_session.specs.Built.{is_built_action, is_built}
 use Rattle.yices_session.specs.State.{Named, State, Cause, tree_named, tree_of}
 use Rattle.yices_session.specs.Replies.{model_text, value_reply}
 
@@ -112,19 +112,25 @@ pub record Says (bytes : List ℕ) (old : State) (reply : List ℕ) (new : State
   pub says : reply ≡ bytes
   pub after : new ≡ old
 
+-- an action that is built may be answered so, where the session goes on as the new one
+abbrev pub Does : State → Action → List ℕ → State → Type 0
+Does old (declare w of) reply new = Declares old w reply new
+Does old (define w of e) reply new = Defines old w e reply new
+Does old (assert e) reply new = Asserts old e reply new
+Does old check reply new = Checks old reply new
+Does old push reply new = Pushes old reply new
+Does old pop reply new = Pops old reply new
+Does old reset reply new = Resets old reply new
+Does old show_model reply new = ShowsModel old reply new
+Does old (eval e) reply new = Evaluates old e reply new
+Does old (echo bytes) reply new = Says bytes old reply new
+Does old exit reply new = Says [] old reply new
+Does old _ reply new = ⊥
+
 -- the session may answer the command so, and go on as the new one
-abbrev pub Step : State → Action → List ℕ → State → Type 0
-Step old (declare w type_at) reply new = Declares old w reply new
-Step old (define w type_at e) reply new = Defines old w e reply new
-Step old (assert e) reply new = Asserts old e reply new
-Step old check reply new = Checks old reply new
-Step old push reply new = Pushes old reply new
-Step old pop reply new = Pops old reply new
-Step old reset reply new = Resets old reply new
-Step old show_model reply new = ShowsModel old reply new
-Step old (eval e) reply new = Evaluates old e reply new
-Step old (echo bytes) reply new = Says bytes old reply new
-Step old exit reply new = Says [] old reply new
+pub record Step (old : State) (a : Action) (reply : List ℕ) (new : State) : Type 0 where
+  pub built : is_built_action a ≡ true
+  pub does : Does old a reply new
 
 -- what is wrong, if it is
 abbrev pub cause_in : {A : Type 0} → Result A Cause → Option Cause
@@ -144,22 +150,24 @@ at_top s at = if nat_le 65536 (level_of s) then Some (record { place = at; refus
 abbrev pub at_bottom : State → Place → Option Cause
 at_bottom s at = if level_of s == 0 then Some (record { place = at; refusal = refusal.BottomLevel }) else None
 
--- why the session refuses the command, if it does
+-- what is wrong with an action of a command at that place, if anything is
+abbrev pub cause_of : State → Place → Action → Option Cause
+cause_of s at (declare w of) = unless_used s at w None
+cause_of s at (define w of e) = unless_used s at w (cause_in (tree_of s.names e))
+cause_of s at (assert e) = cause_in (tree_of s.names e)
+cause_of s at check = None
+cause_of s at push = at_top s at
+cause_of s at pop = at_bottom s at
+cause_of s at reset = None
+cause_of s at show_model = None
+cause_of s at (eval e) = cause_in (tree_of s.names e)
+cause_of s at (echo bytes) = None
+cause_of s at exit = None
+cause_of s at _ = Some (record { place = at; refusal = refusal.NotBuilt })
+
+-- why the session refuses the command, if it does: what isn't built comes before all else
 abbrev pub refusal_of : State → Command → Option Cause
-refusal_of s c = cause c.action
-  where
-    cause : Action → Option Cause
-    cause (declare w type_at) = unless_used s c.place w None
-    cause (define w type_at e) = unless_used s c.place w (cause_in (tree_of s.names e))
-    cause (assert e) = cause_in (tree_of s.names e)
-    cause check = None
-    cause push = at_top s c.place
-    cause pop = at_bottom s c.place
-    cause reset = None
-    cause show_model = None
-    cause (eval e) = cause_in (tree_of s.names e)
-    cause (echo bytes) = None
-    cause exit = None
+refusal_of s c = if is_built c then cause_of s c.place c.action else Some (record { place = c.place; refusal = refusal.NotBuilt })
 
 -- the session answers the commands with these replies, one after another; none of them is `exit`
 abbrev pub Runs : State → List Command → List (List ℕ) → State → Type 0
@@ -167,7 +175,3 @@ Runs old [] [] new = new ≡ old
 Runs old (c ∷ cs) (reply ∷ replies) new = (c.action ≡ exit → ⊥) × ((mid : State) × Step old c.action reply mid × Runs mid cs replies new)
 Runs old [] (reply ∷ replies) new = ⊥
 Runs old (c ∷ cs) [] new = ⊥
-
--- a command of the language: some tokens spell it
-abbrev pub IsCommand : Command → Type 0
-IsCommand c = (ts : List Token) × SpellsCommand c ts

@@ -3,8 +3,8 @@
 ghost use Rattle.std.specs.Prelude.{◌≡◌, ℕ, ◌<◌, ◌++◌, ◌∷◌, [], List, Option, Some, None, true, length, map, IfOk, IfErr, OnOk, OnErr};
 ghost use Rattle.std.specs.List.{AllByRecursion};
 ghost use Rattle.node_encoding.specs.Nodes.{op_of, arguments_of, HasArity, IsFormed, Fits, tree_at};
-ghost use Rattle.yices_grammar.specs.Grammar.{exprs};
-ghost use Rattle.yices_text.specs.Plain.{plain};
+ghost use Rattle.yices_grammar.specs.Commands.{exprs};
+ghost use Rattle.yices_commands.specs.Plain.{plain};
 ghost use Rattle.yices_session.specs.State.{op_named, takes, known, tree_of, trees_of, tree_named};
 ghost use Rattle.yices_session.specs.Bindings.{name_list};
 ghost use Rattle.yices_session.specs.Held.{names_in};
@@ -21,6 +21,7 @@ use yices_text::{Expr, ExprForm, Place};
 /// Adds nodes for an expression over the names, and answers the number of its node. It takes as
 /// many steps as the expression has parts, and one call deep for each bracket that is open in it.
 #[cycle(build)]
+#[tactic(auto, using(crate::proofs::Forms::number_refused, crate::proofs::Forms::binary_refused, crate::proofs::Forms::hex_refused, crate::proofs::Forms::mk_bv_refused, crate::proofs::Forms::extract_refused, crate::proofs::Forms::counted_refused, crate::proofs::Forms::update_refused, crate::proofs::Forms::let_in_refused, crate::proofs::Forms::forall_in_refused, crate::proofs::Forms::apply_refused))]
 pub fn build(
     alloc: Global,
     names: &Names,
@@ -54,6 +55,16 @@ pub fn build(
             let number = add(problem, operation(op, numbers))?;
             Ok(number)
         }
+        ExprForm::Number(_)
+        | ExprForm::Binary(_)
+        | ExprForm::Hex(_)
+        | ExprForm::MkBv(_, _)
+        | ExprForm::Extract(_, _, _)
+        | ExprForm::Counted(_, _, _)
+        | ExprForm::Update(_, _, _)
+        | ExprForm::Let(_, _)
+        | ExprForm::Forall(_, _)
+        | ExprForm::Apply(_, _) => Err(Stop::Refused(expr.place, Refusal::NotBuilt)),
     }
 }
 

@@ -21,7 +21,7 @@ pub enum Refusal {
     BottomLevel,
     /// A level is to be opened where as many are open as may be.
     TooDeep,
-    /// The text is not in the grammar that is built so far.
+    /// The command holds a part of the language that is not built.
     NotBuilt,
 }
 

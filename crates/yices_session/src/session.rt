@@ -1,15 +1,16 @@
 //! The session itself.
 
 ghost use Rattle.std.specs.Prelude.{◌≡◌, [], IfOk, IfErr, OnErr};
-ghost use Rattle.yices_text.specs.Plain.{plain_action, plain_command};
-ghost use Rattle.yices_session.specs.Held.{state_of, IsStopped};
+ghost use Rattle.yices_commands.specs.Plain.{plain_action, plain_command};
+ghost use Rattle.yices_session.specs.Held.{state_of, IsCause, IsStopped};
 ghost use Rattle.yices_session.specs.Replies.{reply_text};
 ghost use Rattle.yices_session.specs.State.{empty_state};
-ghost use Rattle.yices_session.specs.Steps.{Step, IsCommand};
+ghost use Rattle.yices_session.specs.Steps.{Does, Step, cause_of};
 ghost use Rattle.yices_session.specs.declared.refusal.Stop.TheVariants.{NoMemory};
 
+use crate::built::is_built;
 use crate::names::Names;
-use crate::refusal::{Reply, Stop};
+use crate::refusal::{Refusal, Reply, Stop};
 use indexmap::IndexMap;
 use std::alloc::Global;
 use std::marker::Model;
@@ -66,9 +67,20 @@ impl Session {
     /// steps as it has parts; `check` those of `decide`, `eval` and `show-model` one pass over the
     /// nodes, `pop` and `reset` one step for each formula that they take away.
     pub fn answer(&mut self, command: &Command) -> Result<Reply, Stop>
-        requires { IsCommand (plain_command command.now) }
         ensures step { IfOk result (λ r. Step (state_of self.old) (plain_action command.now.action) (reply_text r) (state_of self.new)) }
         ensures stopped { IfErr result (IsStopped (state_of self.old) (plain_command command.now)) }
+        ensures err { OnErr result (state_of self.new ≡ state_of self.old) }
+    {
+        if !is_built(command) {
+            return Err(Stop::Refused(command.place, Refusal::NotBuilt));
+        }
+        self.answer_built(command)
+    }
+
+    // Answers a command all of which is built.
+    fn answer_built(&mut self, command: &Command) -> Result<Reply, Stop>
+        ensures does { IfOk result (λ r. Does (state_of self.old) (plain_action command.now.action) (reply_text r) (state_of self.new)) }
+        ensures stopped { IfErr result (IsCause (cause_of (state_of self.old) command.now.place (plain_action command.now.action))) }
         ensures err { OnErr result (state_of self.new ≡ state_of self.old) }
     {
         match &command.action {
@@ -86,6 +98,13 @@ impl Session {
             Action::Eval(term) => self.eval(term),
             Action::Echo(text) => echo(self.alloc, text),
             Action::Exit => Ok(Reply::Nothing),
+            Action::DefineType(_)
+            | Action::DefineTypeAs(_, _)
+            | Action::CheckAssuming(_)
+            | Action::ShowUnsatAssumptions
+            | Action::ShowImplicant
+            | Action::EfSolve
+            | Action::Include(_) => Err(Stop::Refused(command.place, Refusal::NotBuilt)),
         }
     }
 }

@@ -1,13 +1,7 @@
-pub mod Leading
-pub mod Judging
-pub mod Running
-pub mod Building
+pub mod Holding
+pub mod Verdict
 pub mod Faulting
 pub mod Unique
 pub mod Reaching
-pub mod Scanning
-pub mod Holding
 pub mod Piecing
-pub mod Stepping
-pub mod Refusing
-pub mod Positioning
+pub mod Scanning

@@ -3,15 +3,16 @@ use Rattle.std.proofs.Common.{◌≡◌, ◌∙◌, ℕ, Bool, true, false, Some
 use Rattle.std.proofs.lemmas.Option.{same_Some}
 use Rattle.yices_grammar.specs.declared.Place.{Place}
 use Rattle.yices_grammar.specs.Tokens.{Lexeme, open_bracket, close_bracket, typing_mark, word, string, Piece, white, comment, token, Token, Cuts, IsPiece, IsRun, is_word_byte, is_in_line, piece_bytes, lexeme_bytes, place_behind, tokens_from, start, end_place}
-use Rattle.yices_grammar.specs.Grammar.{Command, SpellsCommands, opened_at, closed_at}
+use Rattle.yices_grammar.specs.Commands.{Command}
+use Rattle.yices_grammar.specs.Laws.{closed_at}
 use Rattle.yices_grammar.specs.Texts.{AreCommands, BeginsWith}
 use Rattle.yices_grammar.specs.Faults.{HasFault}
 use Rattle.yices_text.specs.Laws.{CommandsStay, OneList, FaultsStay}
-use Rattle.yices_text.specs.Machine.{Moved, between, run, after}
+use Rattle.yices_grammar.specs.Machine.{Moved, between, run, after}
+use Rattle.yices_grammar.proofs.Running.{after_some, run_append, run_shift, commands_run}
+use Rattle.yices_grammar.proofs.Ends.{commands_end}
 use Rattle.yices_text.specs.View.{joined}
 use Rattle.yices_lexer.proofs.Cutting.{compare_cuts, tokens_append}
-use Rattle.yices_text.proofs.Running.{run_append, run_shift, commands_spelled}
-use Rattle.yices_text.proofs.Building.{after_some}
 use Rattle.yices_text.proofs.Unique.{nothing_behind}
 use Rattle.yices_text.proofs.Reaching.{fault_fed, fault_finished}
 
@@ -27,13 +28,6 @@ faults_stay finished pieces later cs f h =
     ended : (b : Bool) (text : List ℕ) → HasFault false text cs f → HasFault b text cs f
     ended true text k = fault_finished false text cs f k
     ended false text k = k
-
--- the tokens of commands end with a bracket
-ends_closed : (c : Command) (cs : List Command) (ts : List Token) → SpellsCommands (c ∷ cs) ts → (front : List Token) × (at : Place) × (ts ≡ front ++ closed_at at ∷ [])
-ends_closed c [] ts (first, rest, (inner, close_at, action, one), none, is) =
-    (opened_at c.place ∷ inner, close_at, is ∙ ap (λ r. first ++ r) none ∙ append-nil first ∙ one)
-ends_closed c (d ∷ cs) ts (first, rest, one, all, is) =
-    let on = ends_closed d cs rest all in (first ++ on.0, on.1, is ∙ ap (λ r. first ++ r) on.2 ∙ sym (append_assoc first on.0 (closed_at on.1 ∷ [])))
 
 -- up to its last token the text is cut so, however it goes on
 pub record Stays (at : Place) (text : List ℕ) (ts : List Token) : Type 0 where
@@ -96,10 +90,10 @@ stays at place (token l ∷ ps) text rest (t ∷ ts) (behind, bytes, of, cut) is
       cut = λ more. (behind ++ more, bytes_on (token l) text behind more bytes, piece_on l behind more ps rest (place_behind at (lexeme_bytes l)) place ts of cut parts.1, on.cut more);
     }
 
-begins_on : (text more : List ℕ) (cs : List Command) → BeginsWith text cs → BeginsWith (text ++ more) cs
+pub begins_on : (text more : List ℕ) (cs : List Command) → BeginsWith text cs → BeginsWith (text ++ more) cs
 begins_on text more [] b = (text ++ more, [], refl, record { spelled = refl; shallow = tt })
 begins_on text more (c ∷ cs) (rest, ps, cut, are) =
-    let last = ends_closed c cs (tokens_from start ps) are.spelled in
+    let last = commands_end c cs (tokens_from start ps) are.spelled in
     let on = stays start last.1 ps text rest last.0 cut last.2 in
     (on.rest ++ more, on.pieces, on.cut more, subst (λ ts. AreCommands ts (c ∷ cs)) (last.2 ∙ sym on.tokens) are)
 
@@ -107,7 +101,7 @@ pub commands_stay : CommandsStay
 commands_stay pieces later cs b = subst (λ t. BeginsWith t cs) (sym (joined_append pieces later)) (begins_on (joined pieces) (joined later) cs b)
 
 run_of : (cs : List Command) (ps : List Piece) → AreCommands (tokens_from start ps) cs → run [] between (tokens_from start ps) ≡ Some (record { state = between; commands = cs })
-run_of cs ps a = commands_spelled cs (tokens_from start ps) a.spelled []
+run_of cs ps a = commands_run cs (tokens_from start ps) a.spelled []
 
 no_rest : (cs es : List Command) → length (cs ++ es) ≡ length cs → es ≡ []
 no_rest cs [] h = refl

@@ -1,28 +1,31 @@
 -- A text has one fault behind one list of commands, and none where it has a command more or is read.
 use Rattle.std.proofs.Common.{◌≡◌, ◌∙◌, ℕ, ◌<◌, ◌≤◌, Bool, true, false, Option, Some, None, List, [], ◌∷◌, ◌++◌, length, take, refl, sym, ap, subst, inl, inr, ⊎_elim, arith, append_assoc, append-nil, length-append}
-use Rattle.std.specs.Prelude.{option_map, if◌then◌else◌}
+use Rattle.std.specs.Prelude.{option_map}
 use Rattle.std.proofs.lemmas.Bool.{cases_Bool}
 use Rattle.std.proofs.lemmas.List.{map-append}
 use Rattle.std.proofs.lemmas.Option.{none-some, same_Some, some_pair_parts}
 use Rattle.yices_grammar.specs.declared.Place.{Place}
 use Rattle.yices_grammar.specs.Tokens.{Lexeme, open_bracket, Token, Piece, white, comment, token, Cuts, tokens_from, start, place_behind, end_place, lexeme_bytes}
-use Rattle.yices_grammar.specs.Grammar.{Command, SpellsCommand, SpellsCommands}
+use Rattle.yices_grammar.specs.Commands.{Command}
+use Rattle.yices_grammar.specs.Reading.{SpellsCommand, SpellsCommands, BeginsProgram}
 use Rattle.yices_grammar.specs.Texts.{IsShallow, lexemes, Reads, BeginsWith}
 use Rattle.yices_grammar.specs.Words.{is_bad_token}
-use Rattle.yices_grammar.specs.Language.{BeginsProgram}
-use Rattle.yices_grammar.specs.Beginning.{begins}
-use Rattle.yices_grammar.specs.Faults.{FaultKind, bad_byte, bad_literal, unexpected, end_of_input, nesting, not_built, Fault, IsNext, BeginsBuilt, Fails, IsPart, HasFault}
+use Rattle.yices_grammar.specs.Faults.{FaultKind, bad_byte, bad_literal, unexpected, end_of_input, nesting, Fault, IsNext, Fails, IsPart, HasFault}
+use Rattle.yices_grammar.specs.Machine.{State, Moved, between, inside, take_token, run, after}
+use Rattle.yices_grammar.proofs.Running.{after_some, run_append, run_shift, command_run, commands_run, commands_sound, run_parts, runs_program}
+use Rattle.yices_grammar.specs.Laws.{AreGood}
+use Rattle.yices_grammar.proofs.Literals.{no_bad_literal, good_behind}
 use Rattle.yices_lexer.specs.Pieces.{Cut, first_cut, Break, bad, ends, break_of}
-use Rattle.yices_text.specs.Machine.{State, Moved, between, opened, defining, named, typing, typed, operand, operator, echoing, closing, step, run, after, depth}
-use Rattle.yices_text.specs.Leading.{left_of}
-use Rattle.yices_text.specs.States.{is_too_deep, no_step, token_fault}
 use Rattle.yices_lexer.proofs.Cutting.{cond_yes, cond_no, cut_first, compare_cuts, tokens_append}
-use Rattle.yices_text.proofs.Running.{run_append, run_shift, commands_spelled, command_spelled}
-use Rattle.yices_text.proofs.Building.{run_parts, commands_sound, after_some, spells_append}
-use Rattle.yices_text.proofs.Leading.{begins_program, no_program, runs_program, step_good}
-use Rattle.yices_text.proofs.Judging.{fault_at, verdict, piece_verdict, break_verdict}
 use Rattle.yices_lexer.proofs.Breaking.{break_cut, bad_byte_break, open_string_break}
-use Rattle.yices_text.proofs.Faulting.{depths, shallow_rest, shallow_append, depth_here, shallow_within, within_shallow}
+use Rattle.yices_parser.specs.Taking.{is_too_deep}
+use Rattle.yices_text.specs.Reached.{depths}
+use Rattle.yices_text.proofs.Verdict.{fault_at, no_step, token_fault, verdict, piece_verdict, break_verdict}
+use Rattle.yices_text.proofs.Faulting.{shallow_rest, shallow_append, shallow_within, within_shallow}
+
+-- how many brackets are open behind some pieces
+abbrev pub depth_at : List Piece → ℕ
+depth_at ps = depths 0 (lexemes (tokens_from start ps))
 
 -- the text is cut so, and its tokens are the commands and what the state says
 pub record Behind (fed : List ℕ) (ps : List Piece) (rest : List ℕ) (answered : List Command) (s : State) : Type 0 where
@@ -49,7 +52,7 @@ no_tokens ts h = commands_sound [] ts h
 prefix_free : (c d : Command) (first more : List Token) → SpellsCommand c first → SpellsCommand d (first ++ more) → more ≡ []
 prefix_free c d first more one two =
     let whole : run (c ∷ []) between more ≡ Some (record { state = between; commands = d ∷ [] }) =
-    sym (command_spelled c first one [] more) ∙ ap (run [] between) (sym (append-nil (first ++ more))) ∙ command_spelled d (first ++ more) two [] [] ∙ run_nothing (d ∷ []) between in
+    sym (command_run [] more c first one) ∙ ap (run [] between) (sym (append-nil (first ++ more))) ∙ command_run [] [] d (first ++ more) two ∙ run_nothing (d ∷ []) between in
     let n = after_some (run [] between more) (λ m. Some (record { state = m.state; commands = (c ∷ []) ++ m.commands })) _ (sym (run_shift (c ∷ []) [] between more) ∙ whole) in
     let state : n.0.state ≡ between = ap (λ (m : Moved). m.state) (same_Some _ _ n.2) in
     let none : n.0.commands ≡ [] = nothing_more c d n.0.commands (ap (λ (m : Moved). m.commands) (same_Some _ _ n.2)) in
@@ -59,7 +62,7 @@ prefix_free c d first more one two =
 pub part_runs : (part : List Token) (cs : List Command) → IsPart part → (s : State) × (run cs between part ≡ Some (record { state = s; commands = cs }))
 part_runs part cs (c, missing, some, spells) =
     let whole : run [] between (part ++ missing) ≡ Some (record { state = between; commands = c ∷ [] }) =
-    ap (run [] between) (sym (append-nil (part ++ missing))) ∙ command_spelled c (part ++ missing) spells [] [] ∙ run_nothing (c ∷ []) between in
+    ap (run [] between) (sym (append-nil (part ++ missing))) ∙ command_run [] [] c (part ++ missing) spells ∙ run_nothing (c ∷ []) between in
     let n = after_some (run [] between part) (λ m. run m.commands m.state missing) _ (sym (run_append [] between part missing) ∙ whole) in
     let p = run_parts part n.0 n.1 in
     let none : n.0.commands ≡ [] = complete p.whole p.part n.0.commands p.tokens p.spelled in
@@ -90,7 +93,7 @@ module _ (finished : Bool) (fed : List ℕ) (answered : List Command) (f : Fault
 
   fault_ran : run [] between (tokens_from start h.pieces) ≡ Some (record { state = state.0; commands = answered })
   fault_ran =
-      ap (run [] between) h.tokens ∙ run_append [] between h.whole h.part ∙ ap (λ o. after o (λ m. run m.commands m.state h.part)) (commands_spelled answered h.whole h.spelled [])
+      ap (run [] between) h.tokens ∙ run_append [] between h.whole h.part ∙ ap (λ o. after o (λ m. run m.commands m.state h.part)) (commands_run answered h.whole h.spelled [])
       ∙ state.1
 
   pub fault_state : State
@@ -104,32 +107,15 @@ module _ (finished : Bool) (fed : List ℕ) (answered : List Command) (f : Fault
     shallow = subst (λ ts. IsShallow 0 (lexemes ts)) (sym h.tokens) h.shallow;
   }
 
-step_some : (cs : List Command) (s : State) (t : Token) (ts : List Token) (m : Moved) → run cs s (t ∷ ts) ≡ Some m → (n : Moved) × (step s t.place t.lexeme ≡ Some n)
+step_some : (cs : List Command) (s : State) (t : Token) (ts : List Token) (m : Moved) → run cs s (t ∷ ts) ≡ Some m → (n : Moved) × (take_token s t ≡ Some n)
 unfolding run
-step_some cs s t ts m h = let n = after_some (step s t.place t.lexeme) (λ x. run (cs ++ x.commands) x.state ts) m h in (n.0, n.1)
-
--- what the machine takes can be brought to an end
-built_by : (ts whole part : List Token) (cs : List Command) → ts ≡ whole ++ part → SpellsCommands cs whole → IsPart part → BeginsBuilt ts
-built_by ts whole part cs is spelled_ (c, missing, some, spells) = (
-  cs ++ c ∷ [],
-  missing,
-  subst (SpellsCommands (cs ++ c ∷ [])) (sym (ap (λ r. r ++ missing) is ∙ append_assoc whole part missing))
-      (spells_append cs (c ∷ []) whole (part ++ missing) spelled_ (part ++ missing, [], spells, refl, sym (append-nil (part ++ missing)))),
-)
+step_some cs s t ts m h = let n = after_some (take_token s t) (λ x. run (cs ++ x.commands) x.state ts) m h in (n.0, n.1)
 
 -- at the end of a finished text inside a command
-end_some : (at : Place) (s : State) → (s ≡ between → ⊥) → verdict true at s [] ≡ Some (fault_at at end_of_input)
+end_some : (d : ℕ) (at : Place) (s : State) → (s ≡ between → ⊥) → verdict true d at s [] ≡ Some (fault_at at end_of_input)
 unfolding first_cut break_of
-end_some at between h = absurd (h refl)
-end_some at (opened p) h = refl
-end_some at (defining p) h = refl
-end_some at (named p w) h = refl
-end_some at (typing p w) h = refl
-end_some at (typed p w of) h = refl
-end_some at (operand p g fs) h = refl
-end_some at (operator p g fs o) h = refl
-end_some at (echoing p) h = refl
-end_some at (closing p a) h = refl
+end_some d at between h = absurd (h refl)
+end_some d at (inside m) h = refl
 
 -- the empty text has no piece
 pub nothing_behind : (ps : List Piece) (rest : List ℕ) → Cuts ps [] rest → ps ≡ []
@@ -138,18 +124,18 @@ nothing_behind [] rest h = refl
 nothing_behind (p ∷ ps) rest h = absurd (none-some _ (cut_first p ps [] rest h).1)
 
 -- at a token that the machine takes nothing is wrong
-taken_right : (s : State) (at : Place) (l : Lexeme) (m : Moved) → step s at l ≡ Some m → is_too_deep (depth s) l ≡ false → token_fault s at l ≡ None
+taken_right : (d : ℕ) (s : State) (at : Place) (l : Lexeme) (m : Moved) → take_token s (record { place = at; lexeme = l }) ≡ Some m → is_bad_token l ≡ false → is_too_deep d l ≡ false → token_fault d s at l ≡ None
 unfolding token_fault
-taken_right s at l m h k = cond_no (is_bad_token l) _ _ (step_good s at l m h) ∙ cond_no (is_too_deep (depth s) l) _ _ k ∙ ap (no_step s l) h
+taken_right d s at l m h g k = cond_no (is_bad_token l) _ _ g ∙ cond_no (is_too_deep d l) _ _ k ∙ ap no_step h
 
 module _ (fed : List ℕ) (ps ps' : List Piece) (rest rest' : List ℕ) (a a' : List Command) (s s' : State) (finished : Bool) (f : Fault) where
   -- what was read goes on behind a place only if nothing is wrong there
-  right_on : (q : Piece) (qs : List Piece) → ps ≡ ps' ++ q ∷ qs → Cuts (q ∷ qs) rest' rest → Behind fed ps rest a s → Behind fed ps' rest' a' s' → verdict finished (end_place start ps') s' rest' ≡ Some f → ⊥
+  right_on : (q : Piece) (qs : List Piece) → ps ≡ ps' ++ q ∷ qs → Cuts (q ∷ qs) rest' rest → Behind fed ps rest a s → Behind fed ps' rest' a' s' → verdict finished (depth_at ps') (end_place start ps') s' rest' ≡ Some f → ⊥
   right_on q qs is cut b b' wrong =
       let first = cut_first q qs rest' rest cut in
-      go q first.0 is (sym (ap (piece_verdict finished (end_place start ps') s' rest') first.1) ∙ wrong)
+      go q first.0 is (sym (ap (piece_verdict finished (depth_at ps') (end_place start ps') s' rest') first.1) ∙ wrong)
     where
-      go : (p : Piece) (behind : List ℕ) → ps ≡ ps' ++ p ∷ qs → piece_verdict finished (end_place start ps') s' rest' (Some (p, behind)) ≡ Some f → ⊥
+      go : (p : Piece) (behind : List ℕ) → ps ≡ ps' ++ p ∷ qs → piece_verdict finished (depth_at ps') (end_place start ps') s' rest' (Some (p, behind)) ≡ Some f → ⊥
       go (white x) behind e w = none-some f w
       go (comment x) behind e w = none-some f w
       go (token l) behind e w =
@@ -160,14 +146,15 @@ module _ (fed : List ℕ) (ps ps' : List Piece) (rest rest' : List ℕ) (a a' : 
           let ran : run a' s' (t ∷ tail) ≡ Some (record { state = s; commands = a }) =
           sym (run_append [] between (tokens_from start ps') (t ∷ tail) ∙ ap (λ o. after o (λ m. run m.commands m.state (t ∷ tail))) b'.ran) ∙ ap (run [] between) (sym here) ∙ b.ran in
           let n = step_some a' s' t tail (record { state = s; commands = a }) ran in
-          let deep : is_too_deep (depth s') l ≡ false =
-          subst (λ d. is_too_deep d l ≡ false) (depth_here (tokens_from start ps') (record { state = s'; commands = a' }) b'.ran)
-          (shallow_within (depths 0 (lexemes (tokens_from start ps'))) l (lexemes tail)
-          (shallow_rest 0 (lexemes (tokens_from start ps')) (l ∷ lexemes tail) (subst (IsShallow 0) (map-append (λ (x : Token). x.lexeme) (tokens_from start ps') (t ∷ tail)) (subst (λ ts. IsShallow 0 (lexemes ts)) here b.shallow)))) in
-          none-some f (sym (ap (option_map (fault_at at)) (taken_right s' at l n.0 n.1 deep)) ∙ w)
+          let good : is_bad_token l ≡ false =
+          good_behind (tokens_from start ps') t tail (subst AreGood here (no_bad_literal (tokens_from start ps) (runs_program (tokens_from start ps) (record { state = s; commands = a }) b.ran))) in
+          let deep : is_too_deep (depth_at ps') l ≡ false =
+          shallow_within (depth_at ps') l (lexemes tail)
+          (shallow_rest 0 (lexemes (tokens_from start ps')) (l ∷ lexemes tail) (subst (IsShallow 0) (map-append (λ (x : Token). x.lexeme) (tokens_from start ps') (t ∷ tail)) (subst (λ ts. IsShallow 0 (lexemes ts)) here b.shallow))) in
+          none-some f (sym (ap (option_map (fault_at at)) (taken_right (depth_at ps') s' at l n.0 n.1 good deep)) ∙ w)
 
   -- the place of a fault is not before what was read
-  pub not_before : Behind fed ps rest a s → Behind fed ps' rest' a' s' → verdict finished (end_place start ps') s' rest' ≡ Some f → (more : List Piece) × (ps' ≡ ps ++ more) × Cuts more rest rest'
+  pub not_before : Behind fed ps rest a s → Behind fed ps' rest' a' s' → verdict finished (depth_at ps') (end_place start ps') s' rest' ≡ Some f → (more : List Piece) × (ps' ≡ ps ++ more) × Cuts more rest rest'
   not_before b b' wrong = ⊎_elim (λ x. x) (λ x. other x.0 x.1 x.2) (compare_cuts ps ps' fed rest rest' b.cut b'.cut)
     where
       other : (more : List Piece) → ps ≡ ps' ++ more → Cuts more rest' rest → (on : List Piece) × (ps' ≡ ps ++ on) × Cuts on rest rest'
@@ -179,7 +166,7 @@ pub run_grows : (ts : List Token) (cs : List Command) (s : State) (m : Moved) �
 unfolding run
 run_grows [] cs s m h = let e : length cs ≡ length m.commands = ap (λ (x : Moved). length x.commands) (same_Some _ _ h) in omega arith
 run_grows (t ∷ ts) cs s m h =
-    let n = after_some (step s t.place t.lexeme) (λ x. run (cs ++ x.commands) x.state ts) m h in
+    let n = after_some (take_token s t) (λ x. run (cs ++ x.commands) x.state ts) m h in
     omega (arith, run_grows ts (cs ++ n.0.commands) n.0.state m n.2, length-append cs n.0.commands)
 
 -- a fault by the definition is the one of the verdict
@@ -190,75 +177,66 @@ module _ (finished : Bool) (fed : List ℕ) (answered : List Command) (f : Fault
   s : State
   s = fault_state finished fed answered f h
 
+  d : ℕ
+  d = depth_at h.pieces
+
   first_of : (l : Lexeme) → IsNext finished l h.rest → (behind : List ℕ) × (first_cut h.rest ≡ Some (token l, behind))
   first_of l (behind, firm) =
       let cut = cut_first (token l) [] (h.rest ++ []) (behind ++ []) (firm [] (λ _. refl)) in
       (cut.0, ap first_cut (sym (append-nil h.rest)) ∙ cut.1)
 
-  by_token : (l : Lexeme) (k : FaultKind) → IsNext finished l h.rest → token_fault s h.here l ≡ Some k → f.place ≡ h.here → f.kind ≡ k → verdict finished h.here s h.rest ≡ Some f
+  by_token : (l : Lexeme) (k : FaultKind) → IsNext finished l h.rest → token_fault d s h.here l ≡ Some k → f.place ≡ h.here → f.kind ≡ k → verdict finished d h.here s h.rest ≡ Some f
   by_token l k next e at kind =
       let first = first_of l next in
-      ap (piece_verdict finished h.here s h.rest) first.1 ∙ ap (option_map (fault_at h.here)) e
+      ap (piece_verdict finished d h.here s h.rest) first.1 ∙ ap (option_map (fault_at h.here)) e
       ∙ ap Some (ap (λ x. record { kind = x; place = h.here }) (sym kind) ∙ ap (λ x. record { kind = f.kind; place = x }) (sym at))
 
   here_tokens : tokens_from start h.pieces ≡ h.whole ++ h.part
   here_tokens = h.tokens
 
-  not_deep : (l : Lexeme) → IsShallow 0 (lexemes (h.whole ++ h.part) ++ l ∷ []) → is_too_deep (depth s) l ≡ false
-  unfolding s
-  not_deep l sh =
-      subst (λ d. is_too_deep d l ≡ false) (depth_here (tokens_from start h.pieces) (record { state = s; commands = answered }) (fault_behind finished fed answered f h).ran)
-      (shallow_within _ l [] (shallow_rest 0 (lexemes (tokens_from start h.pieces)) (l ∷ []) (subst (λ ts. IsShallow 0 (lexemes ts ++ l ∷ [])) (sym here_tokens) sh)))
+  not_deep : (l : Lexeme) → IsShallow 0 (lexemes (h.whole ++ h.part) ++ l ∷ []) → is_too_deep d l ≡ false
+  unfolding d
+  not_deep l sh = shallow_within _ l [] (shallow_rest 0 (lexemes (tokens_from start h.pieces)) (l ∷ []) (subst (λ ts. IsShallow 0 (lexemes ts ++ l ∷ [])) (sym here_tokens) sh))
 
   ran_here : run [] between (tokens_from start h.pieces) ≡ Some (record { state = s; commands = answered })
   unfolding s
   ran_here = (fault_behind finished fed answered f h).ran
 
-  next_token : Lexeme → Token
+  abbrev next_token : Lexeme → Token
   next_token l = record { place = h.here; lexeme = l }
 
-  ran_on : (l : Lexeme) (m : Moved) → step s h.here l ≡ Some m → run [] between ((h.whole ++ h.part) ++ next_token l ∷ []) ≡ Some (record { state = m.state; commands = answered ++ m.commands })
-  unfolding run next_token
+  ran_on : (l : Lexeme) (m : Moved) → take_token s (next_token l) ≡ Some m → run [] between ((h.whole ++ h.part) ++ next_token l ∷ []) ≡ Some (record { state = m.state; commands = answered ++ m.commands })
+  unfolding run
   ran_on l m e =
       run_append [] between (h.whole ++ h.part) (next_token l ∷ []) ∙ ap (λ o. after o (λ x. run x.commands x.state (next_token l ∷ []))) (ap (run [] between) (sym here_tokens) ∙ ran_here)
       ∙ ap (λ o. after o (λ x. run (answered ++ x.commands) x.state [])) e
 
-  -- a step that the machine takes leads on to a program, and to a built one
-  step_program : (l : Lexeme) (m : Moved) → step s h.here l ≡ Some m → BeginsProgram (lexemes (h.whole ++ h.part) ++ l ∷ [])
-  unfolding next_token
-  step_program l m e =
-      subst BeginsProgram (map-append (λ (x : Token). x.lexeme) (h.whole ++ h.part) (next_token l ∷ []))
-      (runs_program ((h.whole ++ h.part) ++ next_token l ∷ []) (record { state = m.state; commands = answered ++ m.commands }) (ran_on l m e))
+  -- a step that the machine takes leads on to a program
+  step_program : (l : Lexeme) (m : Moved) → take_token s (next_token l) ≡ Some m → BeginsProgram ((h.whole ++ h.part) ++ next_token l ∷ [])
+  step_program l m e = runs_program ((h.whole ++ h.part) ++ next_token l ∷ []) (record { state = m.state; commands = answered ++ m.commands }) (ran_on l m e)
 
-  step_built : (l : Lexeme) (m : Moved) → step s h.here l ≡ Some m → BeginsBuilt ((h.whole ++ h.part) ++ record { place = h.here; lexeme = l } ∷ [])
-  unfolding next_token
-  step_built l m e =
-      let p = run_parts ((h.whole ++ h.part) ++ next_token l ∷ []) (record { state = m.state; commands = answered ++ m.commands }) (ran_on l m e) in
-      built_by ((h.whole ++ h.part) ++ next_token l ∷ []) p.whole p.part (answered ++ m.commands) p.tokens p.spelled p.going
-
-  stuck : (l : Lexeme) (k : FaultKind) → is_bad_token l ≡ false → is_too_deep (depth s) l ≡ false → ((m : Moved) → step s h.here l ≡ Some m → ⊥) → (if begins (left_of s) l then not_built else unexpected) ≡ k → token_fault s h.here l ≡ Some k
+  stuck : (l : Lexeme) → is_bad_token l ≡ false → is_too_deep d l ≡ false → ((m : Moved) → take_token s (next_token l) ≡ Some m → ⊥) → token_fault d s h.here l ≡ Some unexpected
   unfolding token_fault
-  stuck l k good within none is = cond_no (is_bad_token l) _ _ good ∙ cond_no (is_too_deep (depth s) l) _ _ within ∙ go (step s h.here l) refl
+  stuck l good within none = cond_no (is_bad_token l) _ _ good ∙ cond_no (is_too_deep d l) _ _ within ∙ go (take_token s (next_token l)) refl
     where
-      go : (o : Option Moved) → step s h.here l ≡ o → no_step s l o ≡ Some k
-      go None e = ap Some is
+      go : (o : Option Moved) → take_token s (next_token l) ≡ o → no_step o ≡ Some unexpected
+      go None e = refl
       go (Some m) e = absurd (none m e)
 
-  deep_fault : (l : Lexeme) → l ≡ open_bracket → (IsShallow 0 (lexemes (h.whole ++ h.part) ++ open_bracket ∷ []) → ⊥) → token_fault s h.here open_bracket ≡ Some nesting
-  unfolding token_fault s
-  deep_fault l e never = elim (cases_Bool (is_too_deep (depth s) open_bracket)) [
-    | inl d ↦ cond_yes (is_too_deep (depth s) open_bracket) _ _ d
-    | inr d ↦ absurd (never (subst (λ ts. IsShallow 0 (lexemes ts ++ open_bracket ∷ [])) here_tokens
-        (shallow_append 0 (lexemes (tokens_from start h.pieces)) (open_bracket ∷ []) (fault_behind finished fed answered f h).shallow
-        (subst (λ x. IsShallow x (open_bracket ∷ [])) (sym (depth_here (tokens_from start h.pieces) (record { state = s; commands = answered }) ran_here)) (within_shallow (depth s) open_bracket d)))))
+  deep_fault : (IsShallow 0 (lexemes (h.whole ++ h.part) ++ open_bracket ∷ []) → ⊥) → token_fault d s h.here open_bracket ≡ Some nesting
+  unfolding token_fault d
+  deep_fault never = elim (cases_Bool (is_too_deep d open_bracket)) [
+    | inl e ↦ cond_yes (is_too_deep d open_bracket) _ _ e
+    | inr e ↦ absurd (never (subst (λ ts. IsShallow 0 (lexemes ts ++ open_bracket ∷ [])) here_tokens
+        (shallow_append 0 (lexemes (tokens_from start h.pieces)) (open_bracket ∷ []) (fault_behind finished fed answered f h).shallow (within_shallow d open_bracket e))))
   ]
 
-  bad_fault : (l : Lexeme) → is_bad_token l ≡ true → token_fault s h.here l ≡ Some bad_literal
+  bad_fault : (l : Lexeme) → is_bad_token l ≡ true → token_fault d s h.here l ≡ Some bad_literal
   unfolding token_fault
   bad_fault l e = cond_yes (is_bad_token l) _ _ e
 
-  by_break : (x : Break) → break_of finished h.rest ≡ Some x → break_verdict finished h.here s h.rest (Some x) ≡ Some f → verdict finished h.here s h.rest ≡ Some f
-  by_break x e w = ap (piece_verdict finished h.here s h.rest) (break_cut finished h.rest x e) ∙ ap (break_verdict finished h.here s h.rest) e ∙ w
+  by_break : (x : Break) → break_of finished h.rest ≡ Some x → break_verdict finished h.here s h.rest (Some x) ≡ Some f → verdict finished d h.here s h.rest ≡ Some f
+  by_break x e w = ap (piece_verdict finished d h.here s h.rest) (break_cut finished h.rest x e) ∙ ap (break_verdict finished h.here s h.rest) e ∙ w
 
   whole_fault : (k : FaultKind) (at : Place) → f.kind ≡ k → f.place ≡ at → ◌≡◌ {A = Option Fault} (Some (fault_at at k)) (Some f)
   whole_fault k at e g = ap Some (ap (λ x. record { kind = x; place = at }) (sym e) ∙ ap (λ x. record { kind = f.kind; place = x }) (sym g))
@@ -267,38 +245,27 @@ module _ (finished : Bool) (fed : List ℕ) (answered : List Command) (f : Fault
   unfolding s fault_state state
   state_ran = (part_runs h.part answered h.going).1
 
-  inside : 0 < length h.part → s ≡ between → ⊥
-  inside more is = part_inside h.part answered s h.going more state_ran is
+  not_between : 0 < length h.part → s ≡ between → ⊥
+  not_between more is = part_inside h.part answered s h.going more state_ran is
 
-  end_right : finished ≡ true → h.rest ≡ [] → (s ≡ between → ⊥) → f.kind ≡ end_of_input → f.place ≡ place_behind h.here h.rest → verdict finished h.here s h.rest ≡ Some f
+  end_right : finished ≡ true → h.rest ≡ [] → (s ≡ between → ⊥) → f.kind ≡ end_of_input → f.place ≡ place_behind h.here h.rest → verdict finished d h.here s h.rest ≡ Some f
   end_right done nothing in_ e g =
-      ap (verdict finished h.here s) nothing ∙ ap (λ b. verdict b h.here s []) done ∙ end_some h.here s in_ ∙ whole_fault end_of_input h.here e (g ∙ ap (place_behind h.here) nothing)
+      ap (verdict finished d h.here s) nothing ∙ ap (λ b. verdict b d h.here s []) done ∙ end_some d h.here s in_ ∙ whole_fault end_of_input h.here e (g ∙ ap (place_behind h.here) nothing)
 
-  by_kind : (k : FaultKind) → f.kind ≡ k → Fails k f.place finished h.here (h.whole ++ h.part) h.part h.rest → verdict finished h.here s h.rest ≡ Some f
+  by_kind : (k : FaultKind) → f.kind ≡ k → Fails k f.place finished h.here (h.whole ++ h.part) h.part h.rest → verdict finished d h.here s h.rest ≡ Some f
   by_kind bad_byte e w =
       let b = bad_byte_break finished h.here f.place h.rest w in
       by_break (bad b.0) b.1 (whole_fault bad_byte (place_behind h.here (take b.0 h.rest)) e b.2)
   by_kind bad_literal e (l, next, bad_, at) = by_token l bad_literal next (bad_fault l bad_) at e
-  by_kind unexpected e (l, next, never, at) =
-      by_token l unexpected next.next (stuck l unexpected next.good (not_deep l next.shallow) (λ m y. never (step_program l m y))
-      (cond_no (begins (left_of s) l) _ _ (elim (cases_Bool (begins (left_of s) l)) [
-        | inl b ↦ absurd (never (subst (λ ts. BeginsProgram (lexemes ts ++ l ∷ [])) here_tokens (begins_program (tokens_from start h.pieces) (record { state = s; commands = answered }) l ran_here b)))
-        | inr b ↦ b
-      ]))) at e
-  by_kind end_of_input e ((done, inl (none, some)), at) = end_right done none (inside some) e at
+  by_kind unexpected e (l, next, never, at) = by_token l unexpected next.next (stuck l next.good (not_deep l next.shallow) (λ m y. never (step_program l m y))) at e
+  by_kind end_of_input e ((done, inl (none, some)), at) = end_right done none (not_between some) e at
   by_kind end_of_input e ((done, inr (front, is, begins_)), at) =
       by_break ends (ap (λ b. break_of b h.rest) done ∙ open_string_break h.rest front is begins_) (whole_fault end_of_input (place_behind h.here h.rest) e at)
-  by_kind nesting e (next, never, at) = by_token open_bracket nesting next (deep_fault open_bracket refl never) at e
-  by_kind not_built e (l, next, may, never, at) =
-      by_token l not_built next.next (stuck l not_built next.good (not_deep l next.shallow) (λ m y. never (step_built l m y))
-      (cond_yes (begins (left_of s) l) _ _ (elim (cases_Bool (begins (left_of s) l)) [
-        | inl b ↦ b
-        | inr b ↦ absurd (no_program (tokens_from start h.pieces) (record { state = s; commands = answered }) l ran_here b (subst (λ ts. BeginsProgram (lexemes ts ++ l ∷ [])) (sym here_tokens) may))
-      ]))) at e
+  by_kind nesting e (next, never, at) = by_token open_bracket nesting next (deep_fault never) at e
 
-  pub fault_verdict : verdict finished (end_place start h.pieces) (fault_state finished fed answered f h) h.rest ≡ Some f
-  unfolding s
-  fault_verdict = subst (λ p. verdict finished p s h.rest ≡ Some f) h.place (by_kind f.kind refl h.fails)
+  pub fault_verdict : verdict finished (depth_at h.pieces) (end_place start h.pieces) (fault_state finished fed answered f h) h.rest ≡ Some f
+  unfolding s d
+  fault_verdict = subst (λ p. verdict finished d p s h.rest ≡ Some f) h.place (by_kind f.kind refl h.fails)
 
 -- a cut behind a cut
 pub cuts_behind : (ps qs : List Piece) (text mid rest : List ℕ) → Cuts ps text mid → Cuts (ps ++ qs) text rest → Cuts qs mid rest
@@ -330,13 +297,13 @@ one_fault finished fed a b f g h k =
     let moved : record { state = fault_state finished fed a f h; commands = a } ≡ record { state = fault_state finished fed b g k; commands = b } =
     same_Some _ _ (sym x.ran ∙ ap (λ ps. run [] between (tokens_from start ps)) (sym pieces) ∙ y.ran) in (
       ap (λ (m : Moved). m.commands) moved,
-      same_Some f g (sym vx ∙ ap (λ ps. verdict finished (end_place start ps) (fault_state finished fed a f h) h.rest) (sym pieces)
-          ∙ ap (λ (m : Moved). verdict finished (end_place start k.pieces) m.state h.rest) moved ∙ ap (verdict finished (end_place start k.pieces) (fault_state finished fed b g k)) rest ∙ vy),
+      same_Some f g (sym vx ∙ ap (λ ps. verdict finished (depth_at ps) (end_place start ps) (fault_state finished fed a f h) h.rest) (sym pieces)
+          ∙ ap (λ (m : Moved). verdict finished (depth_at k.pieces) (end_place start k.pieces) m.state h.rest) moved ∙ ap (verdict finished (depth_at k.pieces) (end_place start k.pieces) (fault_state finished fed b g k)) rest ∙ vy),
     )
 
 -- a text that begins with commands has no fault before their end
 begins_behind : (fed : List ℕ) (cs : List Command) (b : BeginsWith fed cs) → Behind fed b.1 b.0 cs between
-begins_behind fed cs (rest, ps, cut, are) = record { cut = cut; ran = commands_spelled cs (tokens_from start ps) are.spelled []; shallow = are.shallow }
+begins_behind fed cs (rest, ps, cut, are) = record { cut = cut; ran = commands_run cs (tokens_from start ps) are.spelled []; shallow = are.shallow }
 
 pub fault_no_command : (finished : Bool) (fed : List ℕ) (a : List Command) (c : Command) (f : Fault) → HasFault finished fed a f → BeginsWith fed (a ++ c ∷ []) → ⊥
 fault_no_command finished fed a c f h b =
@@ -348,17 +315,17 @@ fault_no_command finished fed a c f h b =
     ∙ ap (run [] between) (sym (ap (tokens_from start) on.1 ∙ tokens_append start b.1 on.0)) ∙ y.ran in
     omega (arith, run_grows tail (a ++ c ∷ []) between _ ran, length-append a (c ∷ []))
 
-nothing_wrong : (at : Place) → verdict true at between [] ≡ None
+nothing_wrong : (d : ℕ) (at : Place) → verdict true d at between [] ≡ None
 unfolding first_cut break_of
-nothing_wrong at = refl
+nothing_wrong d at = refl
 
 pub fault_no_end : (fed : List ℕ) (a : List Command) (f : Fault) → HasFault true fed a f → Reads fed a → ⊥
 fault_no_end fed a f h (ps, cut, are) =
-    let x : Behind fed ps [] a between = record { cut = cut; ran = commands_spelled a (tokens_from start ps) are.spelled []; shallow = are.shallow } in
+    let x : Behind fed ps [] a between = record { cut = cut; ran = commands_run a (tokens_from start ps) are.spelled []; shallow = are.shallow } in
     let y = fault_behind true fed a f h in
     let on = not_before fed ps h.pieces [] h.rest a a between (fault_state true fed a f h) true f x y (fault_verdict true fed a f h) in
     let none = nothing_behind on.0 h.rest on.2 in
     let pieces : h.pieces ≡ ps = on.1 ∙ ap (λ qs. ps ++ qs) none ∙ append-nil ps in
     let rest : [] ≡ h.rest = subst (λ qs. Cuts qs [] h.rest) none on.2 in
     let state_is : between ≡ fault_state true fed a f h = ap (λ (m : Moved). m.state) (same_Some _ _ (sym x.ran ∙ ap (λ qs. run [] between (tokens_from start qs)) (sym pieces) ∙ y.ran)) in
-    none-some f (sym (nothing_wrong (end_place start h.pieces)) ∙ ap (λ s. verdict true (end_place start h.pieces) s []) state_is ∙ ap (verdict true (end_place start h.pieces) (fault_state true fed a f h)) rest ∙ fault_verdict true fed a f h)
+    none-some f (sym (nothing_wrong (depth_at h.pieces) (end_place start h.pieces)) ∙ ap (λ s. verdict true (depth_at h.pieces) (end_place start h.pieces) s []) state_is ∙ ap (verdict true (depth_at h.pieces) (end_place start h.pieces) (fault_state true fed a f h)) rest ∙ fault_verdict true fed a f h)

@@ -1,11 +1,6 @@
-pub mod Machine
-pub mod Leading
-pub mod Positions
-pub mod Plain
 pub mod View
-pub mod Progress
-pub mod Codes
-pub mod States
-pub mod Leads
 pub mod Sound
 pub mod Laws
+pub mod Reached
+pub mod Waiting
+pub mod Progress

@@ -5,7 +5,7 @@ ghost use Rattle.std.specs.Option.{option_map};
 ghost use Rattle.y_tree.specs.Values.{truth};
 ghost use Rattle.y_tree.specs.Texts.{value_text};
 ghost use Rattle.node_encoding.specs.Nodes.{tree_at, booleans};
-ghost use Rattle.yices_text.specs.Plain.{plain};
+ghost use Rattle.yices_commands.specs.Plain.{plain};
 ghost use Rattle.yices_session.specs.Bindings.{name_list};
 ghost use Rattle.yices_session.specs.Building.{AreNamed, IsUnbuilt};
 ghost use Rattle.yices_session.specs.Held.{state_of, names_in};

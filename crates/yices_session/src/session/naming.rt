@@ -1,7 +1,7 @@
 //! Declarations and definitions.
 
 ghost use Rattle.std.specs.Prelude.{◌≡◌, None, IfOk, IfErr, OnErr};
-ghost use Rattle.yices_text.specs.Plain.{plain};
+ghost use Rattle.yices_commands.specs.Plain.{plain};
 ghost use Rattle.yices_session.specs.Held.{state_of, IsCause};
 ghost use Rattle.yices_session.specs.Replies.{reply_text};
 ghost use Rattle.yices_session.specs.State.{tree_of};

@@ -1,7 +1,7 @@
 //! Formulas and levels.
 
 ghost use Rattle.std.specs.Prelude.{◌≡◌, ◌++◌, ◌∷◌, [], IfOk, IfErr, OnOk, OnErr};
-ghost use Rattle.yices_text.specs.Plain.{plain};
+ghost use Rattle.yices_commands.specs.Plain.{plain};
 ghost use Rattle.yices_session.specs.Building.{IsUnbuilt};
 ghost use Rattle.yices_session.specs.Held.{state_of, IsCause};
 ghost use Rattle.yices_session.specs.Replies.{reply_text};

@@ -1,6 +1,6 @@
 use Rattle.std.proofs.Common.{map, drop}
-use Rattle.yices_text.specs.Plain.{plain}
-use Rattle.yices_grammar.specs.Grammar.{exprs}
+use Rattle.yices_commands.specs.Plain.{plain}
+use Rattle.yices_grammar.specs.Commands.{exprs}
 use Rattle.yices_session.specs.Bindings.{name_list}
 use Rattle.yices_session.specs.Building.{BuildsSome}
 use Rattle.yices_session.proofs.Nodes.{size, sizes}

@@ -16,4 +16,4 @@ returns-clause-step c =
 
 pub returns-clause-err : goal.returns-clause-err
 returns-clause-err c =
-    kept_at (held_of c.self.inside) c.args.self.now _ (Rattle.yices_text.specs.Plain.plain c.args.term.now) c.in_ok-node.node c.build.new.problem c.self.invariant c.in_ok-node.ensures.kept refl c.self.view_is c.show_node.result
+    kept_at (held_of c.self.inside) c.args.self.now _ (Rattle.yices_commands.specs.Plain.plain c.args.term.now) c.in_ok-node.node c.build.new.problem c.self.invariant c.in_ok-node.ensures.kept refl c.self.view_is c.show_node.result

@@ -1,0 +1,5 @@
+use Rattle.std.proofs.Common.{◌≡◌}
+use Rattle.show_reading.proofs.drain.Given as goal
+
+abbrev pub invariant-loop : goal.invariant-loop
+invariant-loop l = record { fed : l.reader.fed ≡ l.initial.reader.fed; finished : l.reader.finished ≡ l.initial.reader.finished }

@@ -1,0 +1,66 @@
+-- What a turn of the run says: reading a command, answering it, writing its reply.
+use Rattle.std.specs.Prelude.{◌≡◌, ℕ, Bool, true, false, ◌⊎◌, List, [], ◌∷◌, ◌++◌, Option}
+use Rattle.y_io.specs.Outside.{Rose, Grows, GrowsByPart}
+use Rattle.yices_grammar.specs.Commands.{exit, Command}
+use Rattle.yices_grammar.specs.Texts.{Reads, BeginsWith}
+use Rattle.yices_text.specs.View.{HoldsNoMore}
+use Rattle.yices_session.specs.State.{State}
+use Rattle.yices_session.specs.Steps.{Step}
+use Rattle.yices_cli.specs.declared.exit.Exit.{Exit}
+use Rattle.yices_cli.specs.declared.exit.Exit.TheVariants as ends
+use Rattle.yices_cli.specs.Headline.{SinkSeen}
+use Rattle.yices_cli.specs.Parts.{HasNoFault, IsUnread, IsUnanswered}
+
+-- a command other than `exit` was answered, and its reply written
+pub record IsReplied (old : State) (c : Command) (written now : Option (List ℕ)) (new : State) : Type 0 where
+  pub goes_on : c.action ≡ exit → ⊥
+  pub bytes : List ℕ
+  pub step : Step old c.action bytes new
+  pub grows : Grows written now bytes
+
+-- the command is `exit`, and nothing was written
+pub record IsLeaving (c : Command) (written now : Option (List ℕ)) : Type 0 where
+  pub exits : c.action ≡ exit
+  pub same : now ≡ written
+
+-- a command was answered, but its reply couldn't be written whole
+pub record IsHalfReplied (old : State) (c : Command) (out : SinkSeen) : Type 0 where
+  pub bytes : List ℕ
+  pub next : State
+  pub step : Step old c.action bytes next
+  pub rose : Rose out.before out.after
+  pub part : GrowsByPart out.old out.new bytes
+
+-- why the reply to a command isn't written whole
+abbrev pub IsUnreplied : State → Command → SinkSeen → Exit → Type 0
+IsUnreplied old c out e = ((out.new ≡ out.old) × IsUnanswered old c e) ⊎ ((e ≡ ends.WriteFault) × IsHalfReplied old c out)
+
+-- the next command of the text behind those was answered
+pub record AnswersNext (text : List ℕ) (front now : List Command) (old new : State) (written grown : Option (List ℕ)) : Type 0 where
+  pub command : Command
+  pub begins : BeginsWith text (front ++ command ∷ [])
+  pub more : now ≡ front ++ command ∷ []
+  pub replied : IsReplied old command written grown new
+
+-- the next command of the text behind those is `exit`
+pub record LeavesNext (text : List ℕ) (front : List Command) (written now : Option (List ℕ)) : Type 0 where
+  pub command : Command
+  pub begins : BeginsWith text (front ++ command ∷ [])
+  pub leaves : IsLeaving command written now
+
+-- the text holds no whole command behind those, and no fault
+pub record IsReadOut (finished : Bool) (text : List ℕ) (front : List Command) (written now : Option (List ℕ)) : Type 0 where
+  pub whole : finished ≡ true → Reads text front
+  pub waiting : finished ≡ false → HoldsNoMore text front
+  pub right : HasNoFault finished text front
+  pub same : now ≡ written
+
+-- the next command of the text behind those has no reply that was written whole
+pub record IsCutOff (text : List ℕ) (front : List Command) (old : State) (out : SinkSeen) (e : Exit) : Type 0 where
+  pub command : Command
+  pub begins : BeginsWith text (front ++ command ∷ [])
+  pub why : IsUnreplied old command out e
+
+-- why the run can't go on behind those commands: no command was read, or it has no whole reply
+abbrev pub IsFailed : Bool → List ℕ → List Command → State → SinkSeen → Exit → Type 0
+IsFailed finished text front old out e = ((out.new ≡ out.old) × IsUnread finished text front e) ⊎ IsCutOff text front old out e

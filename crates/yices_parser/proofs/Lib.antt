@@ -1,0 +1,9 @@
+pub mod Words
+pub mod Opening
+pub mod Filling
+pub mod Entering
+pub mod Due
+pub mod Closing
+pub mod Typing
+pub mod Beginning
+pub mod Dispatching

@@ -1,5 +1,0 @@
-use Rattle.std.proofs.Common.{◌≡◌}
-use Rattle.yices_text.proofs.tests.drain.Given as goal
-
-abbrev pub invariant-loop : goal.invariant-loop
-invariant-loop l = record { fed : l.reader.fed ≡ l.initial.reader.fed; finished : l.reader.finished ≡ l.initial.reader.finished }
