@@ -1,0 +1,10 @@
+pub mod Mapping
+pub mod Gates
+pub mod Joins
+pub mod Valued
+pub mod Pairs
+pub mod Apart
+pub mod Typings
+pub mod Means
+pub mod Small
+pub mod Fitting
