@@ -135,7 +135,6 @@ impl Context {
     pub fn status(&self) -> Status
         ensures { result ≡ Status.Idle }
     {
-        let _ = &self.marks;
         Status::Idle
     }
 
@@ -143,7 +142,6 @@ impl Context {
     pub fn core(&self) -> Option<&[Term]>
         ensures { IsNone result }
     {
-        let _ = &self.marks;
         None
     }
 }

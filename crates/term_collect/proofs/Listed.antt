@@ -17,7 +17,8 @@ use Rattle.term_table.specs.World.{World, HasShape, HasTypeShape, Keeps, KeepsTy
 use Rattle.term_table.specs.Changes.{IsMarkedAt, cleared, FreedCounts}
 use Rattle.term_table.specs.Naming.{live_names, live_type_names}
 use Rattle.term_table.proofs.Keeping.{AllIn, all_in, type_on, keeps_on}
-use Rattle.term_collect.specs.Reach.{Handle, IsReached, IsListed, IsNamed, IsKept, Leaves, Frees, AreLive, AreLiveTypes}
+use Rattle.term_table.specs.Checking.{AreLive}
+use Rattle.term_collect.specs.Reach.{Handle, IsReached, IsListed, IsNamed, IsKept, Leaves, Frees, AreLiveTypes}
 use Rattle.term_collect.specs.Marking.{HasMark, AllWait, SameSlots, SameButMarks, Marks, Keeping}
 use Rattle.term_collect.proofs.Slots.{same_count, same_stamp, same_live}
 use Rattle.term_collect.proofs.Handles.{same_on, same_back, same_node, same_shape, same_lives, same_holds, same_reaches, same_meant, marks_both, marks_as}

@@ -13,7 +13,8 @@ use Rattle.term_shapes.specs.Shapes.{args_of, types_of, parts_of}
 use Rattle.term_table.specs.declared.table.Marked.TheVariants as handle
 use Rattle.term_table.specs.World.{World, node_at, type_shape_at, HasNode, HasTypeShape}
 use Rattle.term_table.specs.Changes.{term_marked, type_marked}
-use Rattle.term_collect.specs.Reach.{Handle, IsTermAt, IsTypeAt, IsTermOf, IsTypeOf, Needs, AreLive, AreLiveTypes}
+use Rattle.term_table.specs.Checking.{AreLive}
+use Rattle.term_collect.specs.Reach.{Handle, IsTermAt, IsTypeAt, IsTermOf, IsTypeOf, Needs, AreLiveTypes}
 use Rattle.term_collect.specs.Marking.{Marks, SameButMarks, IsTermBelow, IsTypeBelow}
 use Rattle.term_collect.proofs.Handles.{marks_none, marks_both, marks_as, marks_term, marks_type, same_node, same_shape, same_lives, some_is}
 

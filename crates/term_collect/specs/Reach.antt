@@ -12,6 +12,7 @@ use Rattle.term_table.specs.declared.table.Marked.{Marked}
 use Rattle.term_table.specs.declared.table.Marked.TheVariants as handle
 use Rattle.term_table.specs.World.{World, node_at, type_shape_at, HasNode, HasTypeShape, Keeps, KeepsType, IsFreedTerm, IsFreedType, IsAfter}
 use Rattle.term_table.specs.Changes.{count_at, type_count_at}
+use Rattle.term_table.specs.Checking.{AreLive, IsFirstDead}
 use Rattle.term_table.specs.Naming.{live_names, live_type_names}
 use Rattle.term_collect.specs.declared.roots.DeadRoot.{DeadRoot}
 use Rattle.term_collect.specs.declared.roots.DeadRoot.TheVariants as dead
@@ -105,17 +106,9 @@ pub record Frees (old new : World) (terms types : ℕ) : Type 0 where
   pub terms_freed : terms + live new.terms ≡ live old.terms
   pub types_freed : types + live new.types ≡ live old.types
 
--- each term of the list is live
-abbrev pub AreLive : World → List Term → Type 0
-AreLive w ts = (i : ℕ) (t : Term) → slice_get ts i ≡ Some t → IsSome (node_at w t)
-
 -- each type of the list is live
 abbrev pub AreLiveTypes : World → List TypeId → Type 0
 AreLiveTypes w ts = (i : ℕ) (t : TypeId) → slice_get ts i ≡ Some t → IsSome (type_shape_at w t)
-
--- the first dead term of the list stands at that place, counted from 1
-abbrev pub IsFirstDead : World → List Term → ℕ → Type 0
-IsFirstDead w ts place = (i : ℕ) × (t : Term) × (place ≡ i + 1) × (slice_get ts i ≡ Some t) × IsNone (node_at w t) × ((j : ℕ) (u : Term) → j < i → slice_get ts j ≡ Some u → IsSome (node_at w u))
 
 -- the first dead type of the list stands at that place, counted from 1
 abbrev pub IsFirstDeadType : World → List TypeId → ℕ → Type 0

@@ -4,7 +4,8 @@ ghost use Rattle.term_shapes.specs.declared.handles.Term.{Term};
 ghost use Rattle.term_shapes.specs.declared.handles.TypeId.{TypeId};
 ghost use Rattle.term_table.specs.World.{World};
 ghost use Rattle.term_table.specs.Changes.{FreedCounts, IsClosed, Sweeps};
-ghost use Rattle.term_collect.specs.Reach.{AreLive, AreLiveTypes, IsDeadRoot, IsKept, IsReached, Leaves, Frees};
+ghost use Rattle.term_table.specs.Checking.{AreLive};
+ghost use Rattle.term_collect.specs.Reach.{AreLiveTypes, IsDeadRoot, IsKept, IsReached, Leaves, Frees};
 ghost use Rattle.term_collect.specs.Marking.{AllWait, HasMark, Keeping};
 
 use crate::roots::{DeadRoot, first_dead, first_dead_type, mark_terms, mark_types};

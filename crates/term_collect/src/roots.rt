@@ -1,6 +1,7 @@
 //! The listed handles: which of them is dead, and marks for them.
 ghost use Rattle.std.specs.Prelude.{IfSome, IfNone};
-ghost use Rattle.term_collect.specs.Reach.{AreLive, AreLiveTypes, IsFirstDead, IsFirstDeadType, IsTermOf, IsTypeOf};
+ghost use Rattle.term_table.specs.Checking.{AreLive, IsFirstDead};
+ghost use Rattle.term_collect.specs.Reach.{AreLiveTypes, IsFirstDeadType, IsTermOf, IsTypeOf};
 ghost use Rattle.term_collect.specs.Marking.{Marks};
 
 use term_table::{Table, Term, TypeId};

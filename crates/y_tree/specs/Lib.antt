@@ -9,8 +9,5 @@ pub mod Meaning
 pub mod Codes
 pub mod Laws
 pub mod Examples
-pub mod Texts
-pub mod Reading
-pub mod Pieces
 pub mod Counting
 pub mod Plain

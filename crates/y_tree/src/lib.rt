@@ -1,12 +1,11 @@
 //! Terms as plain mathematics: types, values, and in `specs/` the trees, their typing and their meaning, with every
-//! operator of the language; in code the types and values as data, with their order, sameness, zero and texts.
+//! operator of the language; in code the types and values as data, with their order, sameness and zero.
 //!
-//! Its contract: each call answers what one of the definitions says of its arguments, `value_text` for the text of a
-//! value, and `read_value` is the way back, with `BadText` and `Wide` exactly where no value has the text. A value of
-//! the code is right because a fold makes of it the value of the definitions, and each clause speaks of that alone. The
-//! definitions are kept honest by laws (`laws`): a well-typed tree means a value of its type under every assignment,
-//! sameness is an equivalence that every operator keeps, two functions are one exactly where they agree at each tuple
-//! of their domain, and what is told of ill-typed arguments is the first that misfits.
+//! Its contract: each call answers what one of the definitions says of its arguments. A value of the code is right
+//! because a fold makes of it the value of the definitions, and each clause speaks of that alone. The definitions are
+//! kept honest by laws (`laws`): a well-typed tree means a value of its type under every assignment, sameness is an
+//! equivalence that every operator keeps, two functions are one exactly where they agree at each tuple of their domain,
+//! and what is told of ill-typed arguments is the first that misfits.
 //!
 //! The operators on bit-vectors are those of SMT-LIB 2's theory FixedSizeBitVectors, division by zero included, those on
 //! numbers those of its theories Ints and Reals, under the names of Yices 2's language.
@@ -14,29 +13,21 @@
 
 mod copies;
 mod counting;
-mod errors;
 mod functions;
 pub mod laws;
-mod numbers;
 mod order;
-mod read;
 mod sameness;
 mod sorts;
 #[cfg(test)]
 mod tests;
 mod values;
-mod words;
-mod write;
 mod zero;
 
 pub use copies::{copy_function, copy_sort, copy_value, copy_values};
-pub use errors::ValueError;
 pub use order::{cmp_keys, value_cmp};
-pub use read::read_value;
 pub use sameness::{same_function, same_value};
 pub use sorts::{Sort, Sorts, same_sort};
 pub use values::{Entry, FunValue, Value, Values};
-pub use write::write_value;
 pub use zero::zero_of;
 
 /// An operator on bit-vectors.

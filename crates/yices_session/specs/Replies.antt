@@ -3,7 +3,7 @@ use Rattle.std.specs.Prelude.{ℕ, List, [], ◌∷◌, ◌++◌, Option, Some, 
 use Rattle.y_tree.specs.Values.{Value}
 use Rattle.y_tree.specs.Tree.{Tree}
 use Rattle.y_tree.specs.Meaning.{Assignment, meaning}
-use Rattle.y_tree.specs.Texts.{value_text}
+use Rattle.value_texts.specs.Texts.{value_text}
 use Rattle.yices_session.specs.declared.refusal.Reply.{Reply}
 use Rattle.yices_session.specs.declared.refusal.Reply.TheVariants as reply
 use Rattle.yices_session.specs.State.{Named}

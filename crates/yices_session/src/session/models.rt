@@ -3,7 +3,7 @@
 ghost use Rattle.std.specs.Prelude.{◌≡◌, ◌<◌, ◌++◌, length, string_bytes, IfOk, IfErr, OnOk, OnErr};
 ghost use Rattle.std.specs.Option.{option_map};
 ghost use Rattle.y_tree.specs.Values.{truth};
-ghost use Rattle.y_tree.specs.Texts.{value_text};
+ghost use Rattle.value_texts.specs.Texts.{value_text};
 ghost use Rattle.node_encoding.specs.Nodes.{tree_at, booleans};
 ghost use Rattle.yices_commands.specs.Plain.{plain};
 ghost use Rattle.yices_session.specs.Bindings.{name_list};
@@ -99,7 +99,7 @@ fn show_names(
 }
 
 // The text of a truth value.
-#[tactic(auto, unfolding(y_tree::specs::Texts::value_text))]
+#[tactic(auto, unfolding(value_texts::specs::Texts::value_text))]
 fn word_of(value: bool) -> &'static str
     ensures { result.now ≡ value_text (truth value) }
 {

@@ -1,0 +1,9 @@
+pub mod TextLists
+pub mod Splitting
+pub mod Wholes
+pub mod Fractions
+pub mod Digits
+pub mod WordForms
+pub mod KeyTexts
+pub mod EntryTexts
+pub mod FunctionTexts

@@ -1,5 +1,0 @@
-use Rattle.y_tree.proofs.Digits.{bits_length}
-use Rattle.y_tree.proofs.words.read_bits.Goals as goal
-
-pub returns-then-digits-width : goal.returns-then-digits-width
-returns-then-digits-width c = bits_length c.args.text.now c.in_ok-digits.digits.now c.args.width c.in_ok-digits.ensures c.if-digits-width.true
