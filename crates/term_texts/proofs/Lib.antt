@@ -1,0 +1,5 @@
+mod Pieces
+mod Trees
+mod Ending
+mod Weaving
+mod Stacks

@@ -1,0 +1,3 @@
+pub mod TypeTexts
+pub mod TermTexts
+pub mod Gaps
