@@ -1,0 +1,13 @@
+pub mod Calls
+pub mod Growing
+pub mod Kept
+pub mod Fits
+pub mod Standing
+pub mod Meant
+pub mod Called
+pub mod Sorted
+pub mod Ready
+pub mod Nearly
+pub mod Built
+pub mod Lasts
+pub mod Once

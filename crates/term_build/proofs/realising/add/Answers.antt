@@ -1,0 +1,5 @@
+use Rattle.term_build.proofs.Growing.{added_one}
+use Rattle.term_build.proofs.realising.add.Goals as goal
+
+pub returns-in-Ok-clause-grown : goal.returns-in-Ok-clause-grown
+returns-in-Ok-clause-grown c = added_one c.args.table.now c.add.new.self c.in-Ok.t c.args.shape c.in-Ok.ensures.added
