@@ -125,9 +125,10 @@ const ATOMS: [(bool, TypeId, Option<&str>, Term, &str); 13] = [
     (true, BOOL, Some("w"), W, "w"),
 ];
 
-/// An operator with its numbers: a fraction is a numerator and a denominator.
+/// An operator with its numbers, where a fraction is a numerator and a denominator. A sum has the factors of its first term
+/// and of the others, and its constant.
 #[derive(Clone, Copy, Drop)]
-enum Op<'a> {
+enum Op {
     True,
     False,
     Number(i128, i128),
@@ -141,40 +142,26 @@ enum Op<'a> {
     Distinct,
     App,
     Update,
-    Sum(&'a [(i128, i128)], i128, i128),
+    Sum((i128, i128), (i128, i128), (i128, i128)),
     NonNeg,
     Bv(BvOp),
     BvAt(BvAtOp, u32, u32),
 }
 
 /// The terms that stand in others, with the handles that they get.
-const PARTS: [(Op<'static>, &[Term], Term); 6] = [
+const PARTS: [(Op, &[Term], Term); 6] = [
     (Op::And, &[P, Q], BOTH),
     (Op::App, &[F, P], APPLIED),
     (Op::Update, &[F, P, Q], CHANGED),
     (Op::Bits(4, 5), &[], FIVE),
-    (Op::Sum(&[(1, 1)], 1, 2), &[X], HALF_MORE),
-    (Op::Sum(&[(2, 1)], 0, 1), &[X], TWICE),
+    (Op::Sum((1, 1), (1, 1), (1, 2)), &[X], HALF_MORE),
+    (Op::Sum((2, 1), (1, 1), (0, 1)), &[X], TWICE),
 ];
 
-/// Terms with their texts.
-const TERMS: [(Op<'static>, &[Term], &str); 87] = [
+/// Truth values, choices and equalities with their texts.
+const TRUTHS: [(Op, &[Term], &str); 22] = [
     (Op::True, &[], "true"),
     (Op::False, &[], "false"),
-    (Op::Number(0, 1), &[], "0"),
-    (Op::Number(7, 1), &[], "7"),
-    (Op::Number(-7, 1), &[], "-7"),
-    (Op::Number(1, 2), &[], "1/2"),
-    (Op::Number(6, -4), &[], "-3/2"),
-    (
-        Op::Number(i128::MAX, 1),
-        &[],
-        "170141183460469231731687303715884105727",
-    ),
-    (Op::Bits(1, 0), &[], "0b0"),
-    (Op::Bits(4, 5), &[], "0b0101"),
-    (Op::Bits(8, 255), &[], "0b11111111"),
-    (Op::Bits(8, 1), &[], "0b00000001"),
     (Op::Not, &[P], "(not p)"),
     (Op::Not, &[BOTH], "(not (and p c!1))"),
     (Op::And, &[P], "(and p)"),
@@ -195,6 +182,10 @@ const TERMS: [(Op<'static>, &[Term], &str); 87] = [
     (Op::Eq, &[E, E], "(= e e)"),
     (Op::Distinct, &[E], "(distinct e)"),
     (Op::Distinct, &[X, Y, TWICE], "(distinct x c!3 (* 2 x))"),
+];
+
+/// Applications and updates with their texts.
+const CALLS: [(Op, &[Term], &str); 8] = [
     (Op::App, &[F, P], "(f p)"),
     (Op::App, &[F, APPLIED], "(f (f p))"),
     (Op::App, &[G, P, Q], "(c!7 p c!1)"),
@@ -207,33 +198,60 @@ const TERMS: [(Op<'static>, &[Term], &str); 87] = [
         &[CHANGED, APPLIED, BOTH],
         "(update (update f (p) c!1) ((f p)) (and p c!1))",
     ),
-    (Op::Sum(&[], 0, 1), &[], "0"),
-    (Op::Sum(&[], -3, 1), &[], "-3"),
-    (Op::Sum(&[], 5, 2), &[], "5/2"),
-    (Op::Sum(&[(1, 1)], 0, 1), &[X], "x"),
-    (Op::Sum(&[(1, 2)], 0, 1), &[X], "(* 1/2 x)"),
-    (Op::Sum(&[(-1, 1)], 0, 1), &[X], "(* -1 x)"),
-    (Op::Sum(&[(0, 1)], 0, 1), &[X], "(* 0 x)"),
-    (Op::Sum(&[(1, 1)], 1, 2), &[X], "(+ x 1/2)"),
-    (Op::Sum(&[(-2, 3)], -1, 1), &[Y], "(+ (* -2/3 c!3) -1)"),
+];
+
+/// Numbers, sums and comparisons with their texts.
+const NUMBERS: [(Op, &[Term], &str); 22] = [
+    (Op::Number(0, 1), &[], "0"),
+    (Op::Number(7, 1), &[], "7"),
+    (Op::Number(-7, 1), &[], "-7"),
+    (Op::Number(1, 2), &[], "1/2"),
+    (Op::Number(6, -4), &[], "-3/2"),
     (
-        Op::Sum(&[(-3, 1), (1, 1)], 0, 1),
+        Op::Number(i128::MAX, 1),
+        &[],
+        "170141183460469231731687303715884105727",
+    ),
+    (Op::Sum((1, 1), (1, 1), (0, 1)), &[], "0"),
+    (Op::Sum((1, 1), (1, 1), (-3, 1)), &[], "-3"),
+    (Op::Sum((1, 1), (1, 1), (5, 2)), &[], "5/2"),
+    (Op::Sum((1, 1), (1, 1), (0, 1)), &[X], "x"),
+    (Op::Sum((1, 2), (1, 1), (0, 1)), &[X], "(* 1/2 x)"),
+    (Op::Sum((-1, 1), (1, 1), (0, 1)), &[X], "(* -1 x)"),
+    (Op::Sum((0, 1), (1, 1), (0, 1)), &[X], "(* 0 x)"),
+    (Op::Sum((1, 1), (1, 1), (1, 2)), &[X], "(+ x 1/2)"),
+    (
+        Op::Sum((-2, 3), (1, 1), (-1, 1)),
+        &[Y],
+        "(+ (* -2/3 c!3) -1)",
+    ),
+    (
+        Op::Sum((-3, 1), (1, 1), (0, 1)),
         &[X, Y],
         "(+ (* -3 x) c!3)",
     ),
     (
-        Op::Sum(&[(1, 1), (1, 2)], 1, 1),
+        Op::Sum((1, 1), (1, 2), (1, 1)),
         &[X, Y],
         "(+ x (* 1/2 c!3) 1)",
     ),
     (
-        Op::Sum(&[(1, 1), (4, 1), (1, 1)], 0, 1),
+        Op::Sum((1, 1), (4, 1), (0, 1)),
         &[X, Y, HALF_MORE],
-        "(+ x (* 4 c!3) (+ x 1/2))",
+        "(+ x (* 4 c!3) (* 4 (+ x 1/2)))",
+    ),
+    (
+        Op::Sum((2, 1), (1, 1), (0, 1)),
+        &[Y, HALF_MORE, X],
+        "(+ (* 2 c!3) (+ x 1/2) x)",
     ),
     (Op::NonNeg, &[X], "(>= x 0)"),
     (Op::NonNeg, &[TWICE], "(>= (* 2 x) 0)"),
     (Op::NonNeg, &[HALF_MORE], "(>= (+ x 1/2) 0)"),
+];
+
+/// Operators on bit-vectors with their texts.
+const OPERATORS: [(Op, &[Term], &str); 26] = [
     (Op::Bv(BvOp::Add), &[A, FIVE], "(bv-add a 0b0101)"),
     (Op::Bv(BvOp::Add), &[A], "(bv-add a)"),
     (Op::Bv(BvOp::Sub), &[A, B], "(bv-sub a c!5)"),
@@ -260,6 +278,14 @@ const TERMS: [(Op<'static>, &[Term], &str); 87] = [
     (Op::Bv(BvOp::Sgt), &[A, B], "(bv-sgt a c!5)"),
     (Op::Bv(BvOp::Sle), &[A, B], "(bv-sle a c!5)"),
     (Op::Bv(BvOp::Slt), &[A, B], "(bv-slt a c!5)"),
+];
+
+/// Bit-vectors and operators with numbers with their texts.
+const BITS: [(Op, &[Term], &str); 10] = [
+    (Op::Bits(1, 0), &[], "0b0"),
+    (Op::Bits(4, 5), &[], "0b0101"),
+    (Op::Bits(8, 255), &[], "0b11111111"),
+    (Op::Bits(8, 1), &[], "0b00000001"),
     (Op::BvAt(BvAtOp::Extract, 2, 1), &[A], "(bv-extract 2 1 a)"),
     (
         Op::BvAt(BvAtOp::Extract, 0, 0),
@@ -292,8 +318,8 @@ fn at(on: &[Term], place: usize) -> Term {
     on.get(place).copied().unwrap_or(P)
 }
 
-fn fraction(num: i128, den: i128) -> Frac {
-    Frac::new(num, den).unwrap_or(Frac::zero())
+fn fraction(parts: (i128, i128)) -> Frac {
+    Frac::new(parts.0, parts.1).unwrap_or(Frac::zero())
 }
 
 /// The terms from that place on, and before that other one.
@@ -307,28 +333,27 @@ fn args(alloc: Global, on: &[Term], from: usize, to: usize) -> Result<Args, Allo
 
 fn monomials(
     alloc: Global,
-    factors: &[(i128, i128)],
     on: &[Term],
+    first: Frac,
+    others: Frac,
 ) -> Result<Monomials, AllocError> {
     let mut monomials = Monomials::new(alloc);
-    for place in 0..factors.len() {
-        let (num, den) = factors[place];
-        monomials.push(Monomial {
-            factor: fraction(num, den),
-            of: at(on, place),
-        })?;
+    let mut factor = first;
+    for t in on {
+        monomials.push(Monomial { factor, of: *t })?;
+        factor = others;
     }
     Ok(monomials)
 }
 
 /// The shape of an operator over terms.
-fn shape_of(alloc: Global, op: Op<'_>, on: &[Term]) -> Result<Shape, AllocError> {
+fn shape_of(alloc: Global, op: Op, on: &[Term]) -> Result<Shape, AllocError> {
     let (first, second, third) = (at(on, 0), at(on, 1), at(on, 2));
     let last = on.len().saturating_sub(1);
     Ok(match op {
         Op::True => Shape::True,
         Op::False => Shape::False,
-        Op::Number(num, den) => Shape::Number(fraction(num, den)),
+        Op::Number(num, den) => Shape::Number(fraction((num, den))),
         Op::Bits(width, bits) => Shape::Bits { width, bits },
         Op::Not => Shape::Not(first),
         Op::And => Shape::And(args(alloc, on, 0, on.len())?),
@@ -339,9 +364,10 @@ fn shape_of(alloc: Global, op: Op<'_>, on: &[Term]) -> Result<Shape, AllocError>
         Op::Distinct => Shape::Distinct(args(alloc, on, 0, on.len())?),
         Op::App => Shape::App(first, args(alloc, on, 1, on.len())?),
         Op::Update => Shape::Update(first, args(alloc, on, 1, last)?, at(on, last)),
-        Op::Sum(factors, num, den) => {
-            Shape::Sum(monomials(alloc, factors, on)?, fraction(num, den))
-        }
+        Op::Sum(one, others, constant) => Shape::Sum(
+            monomials(alloc, on, fraction(one), fraction(others))?,
+            fraction(constant),
+        ),
         Op::NonNeg => Shape::NonNeg(first),
         Op::Bv(op) => Shape::Bv(op, args(alloc, on, 0, on.len())?),
         Op::BvAt(op, i, j) => Shape::BvAt(op, i, j, first),
@@ -392,7 +418,7 @@ fn make_parts(
     rt: &impl Abort,
     alloc: Global,
     table: &mut Table,
-    rows: &[(Op<'_>, &[Term], Term)],
+    rows: &[(Op, &[Term], Term)],
 ) -> Result<(), AllocError> {
     for row in rows {
         let shape = shape_of(alloc, row.0, row.1)?;
@@ -405,7 +431,7 @@ fn check_terms(
     rt: &impl Abort,
     alloc: Global,
     table: &mut Table,
-    rows: &[(Op<'_>, &[Term], &str)],
+    rows: &[(Op, &[Term], &str)],
 ) -> Result<(), AllocError> {
     for row in rows {
         let shape = shape_of(alloc, row.0, row.1)?;
@@ -435,16 +461,50 @@ fn make_functions(rt: &impl Abort, table: &mut Table, rows: &[(&[TypeId], TypeId
     }
 }
 
+/// These types and atoms, and the terms that stand in others.
+fn fill(rt: &impl Abort, alloc: Global, table: &mut Table) -> Result<(), AllocError> {
+    make_types(rt, table);
+    make_functions(rt, table, &FUNCTIONS);
+    make_atoms(rt, alloc, table, &ATOMS);
+    make_parts(rt, alloc, table, &PARTS)?;
+    give_more_names(rt, table);
+    Ok(())
+}
+
+fn check_truths(rt: &impl Abort, alloc: Global, table: &mut Table) -> Result<(), AllocError> {
+    check_terms(rt, alloc, table, &TRUTHS)
+}
+
+fn check_calls(rt: &impl Abort, alloc: Global, table: &mut Table) -> Result<(), AllocError> {
+    check_terms(rt, alloc, table, &CALLS)
+}
+
+fn check_numbers(rt: &impl Abort, alloc: Global, table: &mut Table) -> Result<(), AllocError> {
+    check_terms(rt, alloc, table, &NUMBERS)
+}
+
+fn check_operators(rt: &impl Abort, alloc: Global, table: &mut Table) -> Result<(), AllocError> {
+    check_terms(rt, alloc, table, &OPERATORS)
+}
+
+fn check_bits(rt: &impl Abort, alloc: Global, table: &mut Table) -> Result<(), AllocError> {
+    check_terms(rt, alloc, table, &BITS)
+}
+
+fn check_all(rt: &impl Abort, alloc: Global, table: &mut Table) -> Result<(), AllocError> {
+    check_types(rt, alloc, table, &TYPES);
+    check_truths(rt, alloc, table)?;
+    check_calls(rt, alloc, table)?;
+    check_numbers(rt, alloc, table)?;
+    check_operators(rt, alloc, table)?;
+    check_bits(rt, alloc, table)
+}
+
 #[test]
 fn each_shape_has_its_text(rt: HostRuntime) -> Result<(), Fail> {
     let alloc: Global = rt.alloc();
     let mut table = Table::new(alloc)?;
-    make_types(&rt, &mut table);
-    make_functions(&rt, &mut table, &FUNCTIONS);
-    make_atoms(&rt, alloc, &mut table, &ATOMS);
-    make_parts(&rt, alloc, &mut table, &PARTS)?;
-    give_more_names(&rt, &mut table);
-    check_types(&rt, alloc, &table, &TYPES);
-    check_terms(&rt, alloc, &mut table, &TERMS)?;
+    fill(&rt, alloc, &mut table)?;
+    check_all(&rt, alloc, &mut table)?;
     Ok(())
 }
