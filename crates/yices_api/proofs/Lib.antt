@@ -1,0 +1,10 @@
+pub mod Tables
+pub mod Lists
+pub mod Stamps
+pub mod Dead
+pub mod Calling
+pub mod Rooting
+pub mod Lasting
+pub mod Outcomes
+pub mod Printing
+pub mod Again

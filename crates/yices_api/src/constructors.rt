@@ -1,0 +1,60 @@
+//! The calls that make terms.
+ghost use Rattle.std.specs.Prelude.{◌≡◌, ◌+◌, IfSome, IfNone, map};
+ghost use Rattle.term_table.specs.Checking.{AreLive, IsFirstDead};
+ghost use Rattle.yices_api.specs.Calls.{of_term, placed};
+ghost use Rattle.yices_api.specs.Steps.{Api, Builds, StepsBy};
+ghost use Rattle.yices_api.specs.declared.calls.Call.TheVariants as call;
+
+use crate::env::Env;
+use crate::replies::{CallError, Reply, of_build, of_table};
+use term_build::build;
+use term_sketches::Operator;
+use term_table::{Table, Term, TypeId};
+
+/// The place of the first dead term, from 1 on.
+fn first_dead(table: &Table, terms: &[Term]) -> Option<usize>
+    ensures dead { IfSome result (λ place. IsFirstDead table.now terms.now place) }
+    ensures live { IfNone result (AreLive table.now terms.now) }
+{
+    for (i, t) in terms.iter().enumerate() {
+        if !table.is_live(*t) {
+            return Some(i + 1);
+        }
+    }
+    None
+}
+
+impl Env {
+    /// A constructor. Dead arguments are told before memory is asked for.
+    pub(crate) fn build(&mut self, operator: Operator, arguments: &[Term]) -> Reply
+        ensures { StepsBy (placed 1 (map of_term arguments.now)) (Builds operator arguments.now) self.old result self.new }
+    {
+        if let Some(place) = first_dead(&self.table, arguments) {
+            return Reply::Refused(CallError::DeadTerm(place));
+        }
+        match build(self.alloc, &mut self.table, operator, arguments) {
+            Ok(t) => Reply::Term(t),
+            Err(e) => of_build(e),
+        }
+    }
+
+    /// A new constant.
+    pub(crate) fn new_constant(&mut self, of: TypeId) -> Reply
+        ensures { Api self.old (call.NewUninterpretedTerm of) result self.new }
+    {
+        match self.table.new_constant(of) {
+            Ok(t) => Reply::Term(t),
+            Err(e) => of_table(1, e),
+        }
+    }
+
+    /// A new variable.
+    pub(crate) fn new_variable(&mut self, of: TypeId) -> Reply
+        ensures { Api self.old (call.NewVariable of) result self.new }
+    {
+        match self.table.new_variable(of) {
+            Ok(t) => Reply::Term(t),
+            Err(e) => of_table(1, e),
+        }
+    }
+}
