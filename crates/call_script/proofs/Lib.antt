@@ -1,0 +1,11 @@
+pub mod FirstBytes
+pub mod Numerals
+pub mod Pieces
+pub mod Going
+pub mod Runs
+pub mod Cutting
+pub mod Writing
+pub mod CallWords
+pub mod Fronts
+pub mod Meaning
+pub mod Lawful
