@@ -3,7 +3,7 @@ use Rattle.std.proofs.Common.{ℕ, ◌≡◌, ◌∙◌, List, [], ◌∷◌, �
 use Rattle.std.specs.Prelude.{OnOk, OnErr}
 use Rattle.std.proofs.lemmas.Option.{same_Some}
 use Rattle.y_io.specs.Outside.{Grows, GrowsByPart}
-use Rattle.yices_cli.specs.Headline.{joined}
+use Rattle.yices_cli.specs.Seen.{joined}
 
 -- nothing was written
 pub grows_same : (w : Option (List ℕ)) → Grows w w []
@@ -20,7 +20,8 @@ grows_on None b c x y h k = ap (λ (o : Option (List ℕ)). o) (grows_none b c y
 grows_on (Some w) None c x y h k = absurd (cc h)
 grows_on (Some w) (Some v) c x y h k = k ∙ ap (λ z. Some (z ++ y)) (same_Some v (w ++ x) h) ∙ ap Some (append_assoc w x y)
 
-take_own : (x : List ℕ) → take (length x) x ≡ x
+-- all of the bytes
+pub take_own : (x : List ℕ) → take (length x) x ≡ x
 take_own [] = refl
 take_own (b ∷ x) = ap (λ z. b ∷ z) (take_own x)
 

@@ -1,4 +1,10 @@
+pub mod Usages
+pub mod Pieces
 pub mod Growing
 pub mod Texts
 pub mod Replying
+pub mod Splitting
+pub mod Running
+pub mod Scripted
+pub mod Forgetting
 pub mod Endings

@@ -45,6 +45,7 @@ line_at at said = codes "yices: <stdin>:" ++ (decimal at.line ++ (codes ":" ++ (
 abbrev pub long_line : LongKind → List ℕ
 long_line long.Bytes = codes "yices: too long: bytes\n"
 long_line (long.Nesting at) = line_at at (codes "too long: nesting")
+long_line (long.Reply at) = line_at at (codes "too long: reply")
 
 -- the line that an exit writes on errors, with its end; nothing where all is done
 abbrev pub line_of : Exit → List ℕ

@@ -1,4 +1,9 @@
+pub mod Words
 pub mod Exits
+pub mod Seen
+pub mod Commands
+pub mod Scripts
 pub mod Headline
 pub mod Parts
 pub mod Turns
+pub mod Lines

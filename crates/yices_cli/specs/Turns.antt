@@ -1,15 +1,49 @@
 -- What a turn of the run says: reading a command, answering it, writing its reply.
-use Rattle.std.specs.Prelude.{◌≡◌, ℕ, Bool, true, false, ◌⊎◌, List, [], ◌∷◌, ◌++◌, Option}
+use Rattle.std.specs.Prelude.{◌≡◌, ℕ, Bool, true, false, ◌⊎◌, List, [], ◌∷◌, ◌++◌, Option, Some}
 use Rattle.y_io.specs.Outside.{Rose, Grows, GrowsByPart}
+use Rattle.yices_grammar.specs.declared.Place.{Place}
 use Rattle.yices_grammar.specs.Commands.{exit, Command}
 use Rattle.yices_grammar.specs.Texts.{Reads, BeginsWith}
-use Rattle.yices_text.specs.View.{HoldsNoMore}
+use Rattle.yices_grammar.specs.Faults.{Fault, FaultKind, nesting, HasFault}
+use Rattle.yices_text.specs.View.{HoldsNoMore, kind_of}
 use Rattle.yices_session.specs.State.{State}
-use Rattle.yices_session.specs.Steps.{Step}
+use Rattle.yices_session.specs.Steps.{Step, refusal_of}
 use Rattle.yices_cli.specs.declared.exit.Exit.{Exit}
 use Rattle.yices_cli.specs.declared.exit.Exit.TheVariants as ends
-use Rattle.yices_cli.specs.Headline.{SinkSeen}
-use Rattle.yices_cli.specs.Parts.{HasNoFault, IsUnread, IsUnanswered}
+use Rattle.yices_cli.specs.declared.exit.LongKind.TheVariants as long
+use Rattle.yices_cli.specs.Seen.{SinkSeen}
+
+-- the text has no fault behind the commands
+abbrev pub HasNoFault : Bool → List ℕ → List Command → Type 0
+HasNoFault finished text commands = (f : Fault) → HasFault finished text commands f → ⊥
+
+-- the text has that fault behind the commands
+abbrev pub HasFaultAt : Bool → List ℕ → List Command → FaultKind → Place → Type 0
+HasFaultAt finished text commands kind at = HasFault finished text commands (record { kind = kind; place = at })
+
+-- why no command was read behind those
+abbrev pub IsUnread : Bool → List ℕ → List Command → Exit → Type 0
+IsUnread finished text commands ends.Done = ⊥
+IsUnread finished text commands ends.NoMemory = Unit {0}
+IsUnread finished text commands (ends.Syntax e) = HasFaultAt finished text commands (kind_of e.kind) e.place
+IsUnread finished text commands ends.ReadFault = ⊥
+IsUnread finished text commands (ends.Usage k) = ⊥
+IsUnread finished text commands (ends.Refused at why) = ⊥
+IsUnread finished text commands ends.WriteFault = ⊥
+IsUnread finished text commands (ends.TooLong long.Bytes) = ⊥
+IsUnread finished text commands (ends.TooLong (long.Nesting at)) = HasFaultAt finished text commands nesting at
+IsUnread finished text commands (ends.TooLong (long.Reply at)) = ⊥
+
+-- why a command has no reply
+abbrev pub IsUnanswered : State → Command → Exit → Type 0
+IsUnanswered s c ends.Done = ⊥
+IsUnanswered s c ends.NoMemory = Unit {0}
+IsUnanswered s c (ends.Syntax e) = ⊥
+IsUnanswered s c ends.ReadFault = ⊥
+IsUnanswered s c (ends.Usage k) = ⊥
+IsUnanswered s c (ends.Refused at why) = refusal_of s c ≡ Some (record { place = at; refusal = why })
+IsUnanswered s c ends.WriteFault = ⊥
+IsUnanswered s c (ends.TooLong kind) = ⊥
 
 -- a command other than `exit` was answered, and its reply written
 pub record IsReplied (old : State) (c : Command) (written now : Option (List ℕ)) (new : State) : Type 0 where

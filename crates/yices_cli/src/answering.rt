@@ -1,7 +1,6 @@
 //! Answers the commands of a text and writes the replies.
 
 ghost use Rattle.std.specs.Prelude.{◌≡◌, ◌≤◌, ◌++◌, ℕ, [], true, false, None, Ok, length, take, OnOk, IfOk, IfErr, OnErr};
-ghost use Rattle.y_io.specs.Outside.{Rose, Grows, GrowsByPart};
 ghost use Rattle.yices_grammar.specs.Commands as grammar;
 ghost use Rattle.yices_grammar.specs.Commands.{exit};
 ghost use Rattle.yices_grammar.specs.Texts.{Reads, BeginsWith};
@@ -12,14 +11,16 @@ ghost use Rattle.yices_session.specs.Replies.{reply_text};
 ghost use Rattle.yices_session.specs.State.{State};
 ghost use Rattle.yices_session.specs.Steps.{Step};
 ghost use Rattle.yices_cli.specs.declared.answering.Turn.TheVariants.{End, Left, On};
-ghost use Rattle.yices_cli.specs.declared.exit.Exit.TheVariants.{Done, WriteFault};
-ghost use Rattle.yices_cli.specs.Parts.{is_finished, EndsSo, IsUnanswered, IsUnread, HasNoFault};
-ghost use Rattle.yices_cli.specs.Turns.{IsReplied, IsLeaving, IsUnreplied, AnswersNext, LeavesNext, IsReadOut, IsFailed};
+ghost use Rattle.yices_cli.specs.declared.exit.Exit.TheVariants.{Done, NoMemory};
+ghost use Rattle.yices_cli.specs.declared.words.Mode.TheVariants.{Language};
+ghost use Rattle.yices_cli.specs.Parts.{is_finished, EndsSo};
+ghost use Rattle.yices_cli.specs.Turns.{IsUnanswered, IsUnread, HasNoFault, IsReplied, IsLeaving, IsUnreplied, AnswersNext, LeavesNext, IsReadOut, IsFailed};
 
 use crate::exit::{Exit, LongKind};
 use crate::reading::TextEnd;
+use crate::writing::write_text;
 use std::alloc::Global;
-use y_io::{Sink, write_all};
+use y_io::Sink;
 use yices_session::{Reply, Session, Stop};
 use yices_text::{Action, Command, ReadError, Reader};
 
@@ -33,10 +34,44 @@ enum Turn {
     On,
 }
 
-/// Answers the commands of the text that was fed, from an empty session on, each before the next is
-/// read, and writes each reply whole before the next command. It takes O(n) steps for the n bytes of
-/// the text, besides those of the answers, and keeps no list of commands.
-pub fn answer_all<K: Sink>(
+/// Answers the commands of a text, from an empty session on, each before the next is read, and writes
+/// each reply whole before the next command. It takes O(n) steps for the n bytes of the text, besides
+/// those of the answers, and keeps no list of commands.
+pub fn answer_commands<K: Sink>(
+    alloc: Global,
+    text: &[u8],
+    end: TextEnd,
+    out: &mut K,
+) -> Result<(), Exit>
+    ensures done { OnOk result (EndsSo Language end text.now (record { old = K.written out.old; new = K.written out.new; before = K.faults out.old; after = K.faults out.new }) Done) }
+    ensures stopped { IfErr result (EndsSo Language end text.now (record { old = K.written out.old; new = K.written out.new; before = K.faults out.old; after = K.faults out.new })) }
+{
+    let mut reader = Reader::new(alloc);
+    feed(&mut reader, text, end)?;
+    answer_all(alloc, &mut reader, end, out)?;
+    Ok(())
+}
+
+// Feeds the text to a reader that was fed nothing, and finishes it where the input ended.
+fn feed(reader: &mut Reader, text: &[u8], end: TextEnd) -> Result<(), Exit>
+    requires fresh { reader.old.fed ≡ [] }
+    requires unfinished { reader.old.finished ≡ false }
+    ensures fed { OnOk result (reader.new.fed ≡ text.now) }
+    ensures finished { OnOk result (reader.new.finished ≡ is_finished end) }
+    ensures answered { OnOk result (reader.new.answered ≡ reader.old.answered) }
+    ensures cause { IfErr result (λ e. e ≡ NoMemory) }
+{
+    if reader.feed(text).is_err() {
+        return Err(Exit::NoMemory);
+    }
+    if end == TextEnd::InputEnd {
+        reader.finish();
+    }
+    Ok(())
+}
+
+// Answers the commands of the text that was fed.
+fn answer_all<K: Sink>(
     alloc: Global,
     reader: &mut Reader,
     end: TextEnd,
@@ -44,8 +79,8 @@ pub fn answer_all<K: Sink>(
 ) -> Result<(), Exit>
     requires fresh { reader.old.answered ≡ [] }
     requires finished { reader.old.finished ≡ is_finished end }
-    ensures done { OnOk result (EndsSo end reader.old.fed (record { old = K.written out.old; new = K.written out.new; before = K.faults out.old; after = K.faults out.new }) Done) }
-    ensures stopped { IfErr result (EndsSo end reader.old.fed (record { old = K.written out.old; new = K.written out.new; before = K.faults out.old; after = K.faults out.new })) }
+    ensures done { OnOk result (EndsSo Language end reader.old.fed (record { old = K.written out.old; new = K.written out.new; before = K.faults out.old; after = K.faults out.new }) Done) }
+    ensures stopped { IfErr result (EndsSo Language end reader.old.fed (record { old = K.written out.old; new = K.written out.new; before = K.faults out.old; after = K.faults out.new })) }
 {
     let mut session = Session::new(alloc);
     'commands: loop {
@@ -93,7 +128,7 @@ fn act<K: Sink>(session: &mut Session, command: Command, out: &mut K) -> Result<
         return Ok(false);
     }
     let reply = answer(session, command)?;
-    write_reply(out, reply)?;
+    write_text(out, reply.text())?;
     Ok(true)
 }
 
@@ -150,19 +185,5 @@ fn exit_of(stop: Stop) -> Exit
     match stop {
         Stop::Refused(place, refusal) => Exit::Refused(place, refusal),
         Stop::NoMemory => Exit::NoMemory,
-    }
-}
-
-// Writes a reply whole.
-fn write_reply<K: Sink>(out: &mut K, reply: Reply) -> Result<(), Exit>
-    ensures ok { OnOk result (Grows (K.written out.old) (K.written out.new) (reply_text reply)) }
-    ensures part { OnErr result (GrowsByPart (K.written out.old) (K.written out.new) (reply_text reply)) }
-    ensures rose { OnErr result (Rose (K.faults out.old) (K.faults out.new)) }
-    ensures fault { IfErr result (λ e. e ≡ WriteFault) }
-    ensures later { K.faults out.old ≤ K.faults out.new }
-{
-    match write_all(out, reply.text().as_bytes()) {
-        Ok(()) => Ok(()),
-        Err(_) => Err(Exit::WriteFault),
     }
 }

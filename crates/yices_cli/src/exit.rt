@@ -15,6 +15,8 @@ pub enum LongKind {
     Bytes,
     /// More open brackets than there may be, by the bracket at that place.
     Nesting(Place),
+    /// A longer reply than there may be, to the call at that place.
+    Reply(Place),
 }
 
 /// Why the program ended.
@@ -101,6 +103,9 @@ fn long_line(alloc: Global, kind: LongKind) -> Result<String, AllocError>
         LongKind::Bytes => String::from_str(alloc, "yices: too long: bytes\n"),
         LongKind::Nesting(Place { line, column }) => format!(in alloc;
             "yices: <stdin>:{line}:{column}: too long: nesting\n"
+        ),
+        LongKind::Reply(Place { line, column }) => format!(in alloc;
+            "yices: <stdin>:{line}:{column}: too long: reply\n"
         ),
     }
 }

@@ -1,4 +1,11 @@
-//! The command `yices`: reads commands from standard input and writes the replies.
+//! The command `yices`: reads commands from standard input, or a script of calls with `--calls`, and
+//! writes the replies.
+//!
+//! Its one contract is the headline of [`run::run`]: for each list of words, each text and each cut of it
+//! into pieces, what is written are the replies of a run of the session, or of a run of the environment's
+//! calls, and the exit is the first cause of that run to stop. It is right because the text is read whole,
+//! by one loop for both modes, and then answered a command or a line at a time, each reply written whole
+//! before the next is looked at: so at each stop the replies so far are what was written.
 #![tactic(auto)]
 
 mod answering;
@@ -6,15 +13,19 @@ mod ending;
 mod exit;
 mod reading;
 mod run;
+mod scripts;
+mod words;
+mod writing;
 
 use crate::run::run;
-use std::env::{self, Env};
-use std::io;
+use std::alloc::{AllocError, Global};
+use std::env::{Env, FillError};
 use std::process::ExitCode;
+use std::{io, str};
 use y_io::{StdSink, StdSource};
 
 fn main(rt: HostRuntime) -> io::Result<ExitCode> {
-    let words = words(&rt)?;
+    let words = arguments(&rt)?;
     let mut out = StdSink::output(rt.stdout());
     let mut errors = StdSink::errors(rt.stderr());
     let alloc = rt.alloc();
@@ -23,18 +34,26 @@ fn main(rt: HostRuntime) -> io::Result<ExitCode> {
     Ok(ExitCode::from(exit.status()))
 }
 
-// The words after the program's name. Words that aren't all UTF-8 are a faulty command line, as an
-// empty word is.
-fn words<R: Env + AllocGlobal>(rt: &R) -> io::Result<Vec<String>> {
-    match env::args(rt) {
-        Ok(mut args) => {
-            let _ = args.next();
-            Ok(args.collect(rt.alloc())?)
+// The words after the program's name. A word that isn't UTF-8, or has more than 4,096 bytes, is at
+// fault as an empty word is.
+fn arguments<R: Env + AllocGlobal>(rt: &R) -> Result<Vec<String>, AllocError> {
+    let mut words = Vec::new(rt.alloc());
+    let mut buffer = [0u8; 4096];
+    for place in 1..usize::MAX {
+        match rt.arg(place, &mut buffer) {
+            Ok(count) => words.push(word(rt.alloc(), &buffer[..count])?)?,
+            Err(FillError::TooLong) => words.push(String::new(rt.alloc()))?,
+            Err(FillError::NotPresent) => break,
         }
-        Err(error) if error.kind() == io::ErrorKind::InvalidData => {
-            Ok(vec![in rt.alloc(); String::new(rt.alloc())]?)
-        }
-        Err(error) => Err(error),
+    }
+    Ok(words)
+}
+
+// The text of a word, or none where it isn't UTF-8.
+fn word(alloc: Global, bytes: &[u8]) -> Result<String, AllocError> {
+    match str::from_utf8(bytes) {
+        Ok(text) => String::from_str(alloc, text),
+        Err(_) => Ok(String::new(alloc)),
     }
 }
 

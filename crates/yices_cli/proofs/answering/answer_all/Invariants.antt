@@ -2,7 +2,7 @@ use Rattle.std.proofs.Common.{◌-◌, ◌≡◌, ◌≤◌, length}
 use Rattle.yices_grammar.specs.Texts.{BeginsWith}
 use Rattle.yices_session.specs.Held.{state_of}
 use Rattle.yices_text.specs.View.{says}
-use Rattle.yices_cli.specs.Headline.{HasAnswered}
+use Rattle.yices_cli.specs.Commands.{HasAnswered}
 use Rattle.yices_cli.proofs.answering.answer_all.Given as goal
 
 -- the commands that were read are answered
