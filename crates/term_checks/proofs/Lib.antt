@@ -1,0 +1,13 @@
+pub mod Answering
+pub mod Carried
+pub mod Cores
+pub mod Kept
+pub mod Models
+pub mod Places
+pub mod Shown
+pub mod Sorts
+pub mod Starts
+pub mod Trees
+pub mod Truths
+pub mod TwinOrders
+pub mod Twins
