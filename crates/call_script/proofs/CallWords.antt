@@ -65,6 +65,9 @@ word_named call.Push = refl
 word_named call.Pop = refl
 word_named call.ContextStatus = refl
 word_named call.AssertFormula = refl
+word_named call.CheckContext = refl
+word_named call.CheckContextWithAssumptions = refl
+word_named call.GetUnsatCore = refl
 
 -- and it is no word of a call that isn't built
 pub word_built : (c : CallWord) → is_among later_words (form_of c).text ≡ false
@@ -107,6 +110,9 @@ word_built call.Push = refl
 word_built call.Pop = refl
 word_built call.ContextStatus = refl
 word_built call.AssertFormula = refl
+word_built call.CheckContext = refl
+word_built call.CheckContextWithAssumptions = refl
+word_built call.GetUnsatCore = refl
 
 pub words_differ : (c d : CallWord) → (form_of c).text ≡ (form_of d).text → c ≡ d
 words_differ c d h = some_is c d (sym (word_named c) ∙ ap call_named h ∙ word_named d)

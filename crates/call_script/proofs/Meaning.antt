@@ -31,6 +31,7 @@ named_kind (Some kind.Term) h = absurd (cc h)
 named_kind (Some kind.Context) h = absurd (cc h)
 named_kind (Some kind.TypeOrTerm) h = absurd (cc h)
 named_kind (Some kind.Flag) h = absurd (cc h)
+named_kind (Some kind.Turns) h = absurd (cc h)
 named_kind (Some kind.Name) h = refl
 
 may_named : (f : Front) → NameMayStand f → name_may_stand f ≡ true

@@ -1,8 +1,9 @@
 -- Arguments are written as is computed.
-use Rattle.std.proofs.Common.{◌≡◌, ◌∙◌, ℕ, ◌+◌, ◌<◌, Bool, true, false, not, cond, ltb, leb, Option, Some, None, List, [], ◌∷◌, ◌++◌, length, get_or, take, drop, refl, sym, ap, subst, arith, codes, append_assoc, append-nil, length-append, take_at, drop_at}
+use Rattle.std.proofs.Common.{◌≡◌, ◌∙◌, ℕ, ◌+◌, ◌<◌, ◌^◌, Bool, true, false, not, ◌&&◌, cond, ltb, leb, Option, Some, None, List, [], ◌∷◌, ◌++◌, length, get_or, take, drop, refl, sym, ap, subst, arith, codes, append_assoc, append-nil, length-append, take_at, drop_at}
 use Rattle.std.specs.Prelude.{◌==◌}
 use Rattle.std.specs.List.{list_all, position_or_len, before_first, after_first}
 use Rattle.std.specs.Str.{bytes_eq}
+use Rattle.std.specs.Str.Parse.{digits_value}
 use Rattle.std.proofs.lemmas.Bool.{and_parts, ne_eqb, eqb-true, lt-ltb, le-ltb, ltb-true, leb-true}
 use Rattle.std.proofs.lemmas.Slice.Eq.{bytes_eq-Decides}
 use Rattle.std.proofs.lemmas.List.Sums.{split_at_first, prefix_len_stops}
@@ -11,8 +12,8 @@ use Rattle.call_script.specs.declared.words.ArgumentKind.{ArgumentKind}
 use Rattle.call_script.specs.declared.words.ArgumentKind.TheVariants as kind
 use Rattle.call_script.specs.Calls.{is_reference_kind}
 use Rattle.call_script.specs.Tokens.{Lexeme, word, name}
-use Rattle.call_script.specs.Lines.{Written, reference, entry, flag, quoted, IsNumber, flag_text, IsWritten, IsOfKind}
-use Rattle.call_script.specs.Judging.{number_of, numeral, as_reference, as_entry, is_point, numbers_of, reference_of, flag_of, quoted_of, argument_of}
+use Rattle.call_script.specs.Lines.{Written, reference, entry, flag, limit, quoted, IsNumber, flag_text, IsLimit, IsWritten, IsOfKind}
+use Rattle.call_script.specs.Judging.{number_of, numeral, as_reference, as_entry, is_point, numbers_of, reference_of, flag_of, counted, as_limit, limit_of, quoted_of, argument_of}
 use Rattle.call_script.proofs.Runs.{both, prefix_run}
 use Rattle.call_script.proofs.Numerals.{are_all}
 
@@ -50,6 +51,7 @@ abbrev Numbers : List ℕ → Written → Type 0
 Numbers bs (reference n) = IsNumber bs n
 Numbers bs (entry n i) = (ds : List ℕ) × (es : List ℕ) × (bs ≡ ds ++ 46 ∷ es) × IsNumber ds n × IsNumber es i
 Numbers bs (flag b) = ⊥
+Numbers bs (limit n) = ⊥
 Numbers bs (quoted s) = ⊥
 
 one_number : (ds : List ℕ) (n : ℕ) → IsNumber ds n → numbers_of ds ≡ Some (reference n)
@@ -108,6 +110,7 @@ sign_is : (k : ArgumentKind) (b : ℕ) (bs : List ℕ) (a : Written) → is_refe
 sign_is k b bs (reference n) r e h = (r, bs, ap (λ x. x ∷ bs) e, h)
 sign_is k b bs (entry n i) r e (ds, es, is, first, second) = (r, ds, es, ap (λ x. x ∷ bs) e ∙ ap (λ x. 35 ∷ x) is, first, second)
 sign_is k b bs (flag v) r e h = absurd h
+sign_is k b bs (limit n) r e h = absurd h
 sign_is k b bs (quoted s) r e h = absurd h
 
 reference_from : (k : ArgumentKind) (w : List ℕ) (a : Written) → is_reference_kind k ≡ true → reference_of w ≡ Some a → IsWritten k (word w) a
@@ -138,6 +141,50 @@ flag_from w a h =
       ] refl g
     ] refl h
 
+-- limits
+
+counted_is : (ds : List ℕ) (n : ℕ) → IsLimit ds (Some n) → counted ds ≡ Some n
+unfolding counted
+counted_is ds n (digits, is, low) =
+    ap (λ v. cond v (Some (digits_value 10 ds)) None) (both (are_some is_digit ds) (ltb (digits_value 10 ds) (2 ^ 64)) digits (lt-ltb (digits_value 10 ds) (2 ^ 64) (subst (λ x. x < 2 ^ 64) is low)))
+    ∙ ap Some (sym is)
+
+counted_from : (ds : List ℕ) (n : ℕ) → counted ds ≡ Some n → IsLimit ds (Some n)
+unfolding counted
+counted_from ds n h =
+    elim (are_some is_digit ds && ltb (digits_value 10 ds) (2 ^ 64)) as (λ v. (are_some is_digit ds && ltb (digits_value 10 ds) (2 ^ 64)) ≡ v → cond v (Some (digits_value 10 ds)) None ≡ Some n → IsLimit ds (Some n)) [
+      | true ↦ λ e k.
+          let parts = and_parts (are_some is_digit ds) (ltb (digits_value 10 ds) (2 ^ 64)) e in
+          let is = some_is (digits_value 10 ds) n k in
+          (parts.0, sym is, subst (λ x. x < 2 ^ 64) is (ltb-true (digits_value 10 ds) (2 ^ 64) parts.1))
+      | false ↦ λ e k. absurd (none_is n k)
+    ] refl h
+
+-- digits are no word
+digits_differ : (w : List ℕ) → are_some is_digit w ≡ true → bytes_eq w (codes "whole") ≡ false
+digits_differ w h =
+    elim (bytes_eq w (codes "whole")) as (λ v. bytes_eq w (codes "whole") ≡ v → v ≡ false) [
+      | true ↦ λ e. absurd (cc (sym (ap (are_some is_digit) ((bytes_eq-Decides w (codes "whole")).0 e)) ∙ h))
+      | false ↦ λ e. refl
+    ] refl
+
+limit_is : (w : List ℕ) (n : Option ℕ) → IsLimit w n → limit_of w ≡ Some (limit n)
+unfolding limit_of
+limit_is w None h = ap limit_of h
+limit_is w (Some n) h = ap (λ v. cond v (Some (limit None)) (as_limit (counted w))) (digits_differ w h.0) ∙ ap as_limit (counted_is w n h)
+
+from_counted : (w : List ℕ) (o : Option ℕ) (a : Written) → counted w ≡ o → as_limit o ≡ Some a → IsWritten kind.Turns (word w) a
+from_counted w None a e h = absurd (none_is a h)
+from_counted w (Some n) a e h = subst (IsWritten kind.Turns (word w)) (some_is (limit (Some n)) a h) (refl, counted_from w n e)
+
+limit_from : (w : List ℕ) (a : Written) → limit_of w ≡ Some a → IsWritten kind.Turns (word w) a
+unfolding limit_of
+limit_from w a h =
+    elim (bytes_eq w (codes "whole")) as (λ v. bytes_eq w (codes "whole") ≡ v → cond v (Some (limit None)) (as_limit (counted w)) ≡ Some a → IsWritten kind.Turns (word w) a) [
+      | true ↦ λ e g. subst (IsWritten kind.Turns (word w)) (some_is (limit None) a g) (refl, (bytes_eq-Decides w (codes "whole")).0 e)
+      | false ↦ λ e g. from_counted w (counted w) a refl g
+    ] refl h
+
 -- names
 
 quoted_is : (s : List ℕ) → 0 < length s → quoted_of s ≡ Some (quoted s)
@@ -156,16 +203,19 @@ word_of_kind kind.Term w h = refl
 word_of_kind kind.Context w h = refl
 word_of_kind kind.TypeOrTerm w h = refl
 word_of_kind kind.Flag w h = absurd (cc h)
+word_of_kind kind.Turns w h = absurd (cc h)
 word_of_kind kind.Name w h = absurd (cc h)
 
 pub written_is : (k : ArgumentKind) (l : Lexeme) (a : Written) → IsWritten k l a → argument_of k l ≡ Some a
 written_is k (word w) (reference n) (r, ds, is, num) = word_of_kind k w r ∙ reference_is w ds (reference n) is (one_number ds n num)
 written_is k (word w) (entry n i) (r, ds, es, is, first, second) = word_of_kind k w r ∙ reference_is w (ds ++ 46 ∷ es) (entry n i) is (two_numbers ds es n i first second)
 written_is k (word w) (flag b) (e, is) = ap (λ x. argument_of x (word w)) e ∙ flag_is w b is
+written_is k (word w) (limit n) (e, is) = ap (λ x. argument_of x (word w)) e ∙ limit_is w n is
 written_is k (word w) (quoted s) h = absurd h
 written_is k (name s) (reference n) h = absurd h
 written_is k (name s) (entry n i) h = absurd h
 written_is k (name s) (flag b) h = absurd h
+written_is k (name s) (limit n) h = absurd h
 written_is k (name s) (quoted t) (e, some, is) = ap (λ x. argument_of x (name s)) e ∙ quoted_is s some ∙ ap (λ x. Some (quoted x)) (sym is)
 
 pub written_from : (k : ArgumentKind) (l : Lexeme) (a : Written) → argument_of k l ≡ Some a → IsWritten k l a
@@ -174,12 +224,14 @@ written_from kind.Term (word w) a h = reference_from kind.Term w a refl h
 written_from kind.Context (word w) a h = reference_from kind.Context w a refl h
 written_from kind.TypeOrTerm (word w) a h = reference_from kind.TypeOrTerm w a refl h
 written_from kind.Flag (word w) a h = flag_from w a h
+written_from kind.Turns (word w) a h = limit_from w a h
 written_from kind.Name (word w) a h = absurd (none_is a h)
 written_from kind.Type (name s) a h = absurd (none_is a h)
 written_from kind.Term (name s) a h = absurd (none_is a h)
 written_from kind.Context (name s) a h = absurd (none_is a h)
 written_from kind.TypeOrTerm (name s) a h = absurd (none_is a h)
 written_from kind.Flag (name s) a h = absurd (none_is a h)
+written_from kind.Turns (name s) a h = absurd (none_is a h)
 written_from kind.Name (name s) a h = quoted_from s a h
 
 -- an argument is of the kind that it is written as
@@ -187,8 +239,10 @@ pub written_kind : (k : ArgumentKind) (l : Lexeme) (a : Written) → IsWritten k
 written_kind k (word w) (reference n) h = h.0
 written_kind k (word w) (entry n i) h = h.0
 written_kind k (word w) (flag b) h = h.0
+written_kind k (word w) (limit n) h = h.0
 written_kind k (word w) (quoted s) h = absurd h
 written_kind k (name s) (reference n) h = absurd h
 written_kind k (name s) (entry n i) h = absurd h
 written_kind k (name s) (flag b) h = absurd h
+written_kind k (name s) (limit n) h = absurd h
 written_kind k (name s) (quoted t) h = h.0

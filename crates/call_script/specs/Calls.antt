@@ -60,6 +60,9 @@ form_of call.Push = takes (codes "push") (kind.Context ∷ [])
 form_of call.Pop = takes (codes "pop") (kind.Context ∷ [])
 form_of call.ContextStatus = takes (codes "context_status") (kind.Context ∷ [])
 form_of call.AssertFormula = takes (codes "assert_formula") (kind.Context ∷ kind.Term ∷ [])
+form_of call.CheckContext = takes (codes "check_context") (kind.Context ∷ kind.Turns ∷ [])
+form_of call.CheckContextWithAssumptions = takes_any (codes "check_context_with_assumptions") (kind.Context ∷ kind.Turns ∷ []) kind.Term
+form_of call.GetUnsatCore = takes (codes "get_unsat_core") (kind.Context ∷ [])
 
 -- the words of the calls that aren't built
 abbrev pub later_words : List (List ℕ)
@@ -73,7 +76,7 @@ later_words =
     ∷ codes "shift_left0" ∷ codes "shift_right0" ∷ codes "sign_extend" ∷ codes "zero_extend" ∷ codes "bvextract"
     ∷ codes "bvge_atom" ∷ codes "bvgt_atom" ∷ codes "bvle_atom" ∷ codes "bvlt_atom"
     ∷ codes "bvsge_atom" ∷ codes "bvsgt_atom" ∷ codes "bvsle_atom" ∷ codes "bvslt_atom"
-    ∷ codes "check_context" ∷ codes "check_context_with_assumptions" ∷ codes "get_unsat_core" ∷ codes "get_model" ∷ codes "model_from_map"
+    ∷ codes "get_model" ∷ codes "model_from_map"
     ∷ codes "free_model" ∷ codes "get_value" ∷ codes "implicant_for_formulas" ∷ []
 
 -- the kind of the argument at a place, from 0, where the first ones and the further ones have these kinds
@@ -97,4 +100,5 @@ is_reference_kind kind.Term = true
 is_reference_kind kind.Context = true
 is_reference_kind kind.TypeOrTerm = true
 is_reference_kind kind.Flag = false
+is_reference_kind kind.Turns = false
 is_reference_kind kind.Name = false

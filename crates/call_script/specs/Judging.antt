@@ -12,7 +12,7 @@ use Rattle.call_script.specs.declared.lines.LineEnd.{LineEnd}
 use Rattle.call_script.specs.declared.lines.LineEnd.TheVariants as line_end
 use Rattle.call_script.specs.Calls.{form_of, later_words, kind_at}
 use Rattle.call_script.specs.Tokens.{Lexeme, word, name, lexeme_bytes, Token, Tail, over, inside_word, inside_name, bad, bad_in_name, stray, is_separator, is_bracket, is_word_byte, is_name_byte}
-use Rattle.call_script.specs.Lines.{Written, reference, entry, flag, quoted, Front, start, part, bad_byte, unexpected, end_of_input, Reading, nothing, called, unfinished, fault, not_built}
+use Rattle.call_script.specs.Lines.{Written, reference, entry, flag, limit, quoted, Front, start, part, bad_byte, unexpected, end_of_input, Reading, nothing, called, unfinished, fault, not_built}
 
 -- more may come
 abbrev pub is_open : LineEnd → Bool
@@ -96,7 +96,7 @@ all_calls =
     ∷ call.Ite ∷ call.Eq ∷ call.Neq ∷ call.Distinct ∷ call.TypeOfTerm ∷ call.PpTerm ∷ call.IncrefTerm ∷ call.DecrefTerm ∷ call.IncrefType ∷ call.DecrefType
     ∷ call.NumTerms ∷ call.NumTypes ∷ call.GarbageCollect ∷ call.SetTermName ∷ call.SetTypeName ∷ call.GetTermByName ∷ call.GetTypeByName ∷ call.GetTermName
     ∷ call.GetTypeName ∷ call.RemoveTermName ∷ call.RemoveTypeName ∷ call.NewContext ∷ call.FreeContext ∷ call.ResetContext ∷ call.Push ∷ call.Pop
-    ∷ call.ContextStatus ∷ call.AssertFormula ∷ []
+    ∷ call.ContextStatus ∷ call.AssertFormula ∷ call.CheckContext ∷ call.CheckContextWithAssumptions ∷ call.GetUnsatCore ∷ []
 
 -- the first of the calls with that word
 abbrev pub named_among : List CallWord → List ℕ → Option CallWord
@@ -144,6 +144,19 @@ reference_of (b ∷ bs) = if b == 35 then numbers_of bs else None
 unfoldable pub flag_of : List ℕ → Option Written
 flag_of w = if bytes_eq w (codes "true") then Some (flag true) else if bytes_eq w (codes "false") then Some (flag false) else None
 
+-- the number of a numeral below 2^64
+unfoldable pub counted : List ℕ → Option ℕ
+counted ds = if are_some is_digit ds && nat_lt (digits_value 10 ds) (2 ^ 64) then Some (digits_value 10 ds) else None
+
+-- a limit by its number
+abbrev pub as_limit : Option ℕ → Option Written
+as_limit None = None
+as_limit (Some n) = Some (limit (Some n))
+
+-- a limit of turns, or none
+unfoldable pub limit_of : List ℕ → Option Written
+limit_of w = if bytes_eq w (codes "whole") then Some (limit None) else as_limit (counted w)
+
 -- a name that isn't empty
 abbrev pub quoted_of : List ℕ → Option Written
 quoted_of [] = None
@@ -152,6 +165,7 @@ quoted_of (b ∷ bs) = Some (quoted (b ∷ bs))
 -- the argument of that kind
 abbrev pub argument_of : ArgumentKind → Lexeme → Option Written
 argument_of kind.Flag (word w) = flag_of w
+argument_of kind.Turns (word w) = limit_of w
 argument_of kind.Name (word w) = None
 argument_of k (word w) = reference_of w
 argument_of kind.Name (name s) = quoted_of s

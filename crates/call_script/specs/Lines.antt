@@ -10,11 +10,12 @@ use Rattle.call_script.specs.declared.lines.LineEnd.TheVariants as line_end
 use Rattle.call_script.specs.Calls.{form_of, later_words, kind_at, IsEnough, is_reference_kind}
 use Rattle.call_script.specs.Tokens.{Lexeme, word, name, Token, Tail, over, inside_word, inside_name, bad, bad_in_name, stray, CutsLine}
 
--- an argument: the result of a line, an entry of a line's list, a flag, or a name
+-- an argument: the result of a line, an entry of a line's list, a flag, a limit of turns or none, or a name
 pub data Written : Type 0 where
   reference : ℕ → Written
   entry : ℕ → ℕ → Written
   flag : Bool → Written
+  limit : Option ℕ → Written
   quoted : List ℕ → Written
 
 -- the digits are a numeral; a value past `2^64 - 1` counts as that
@@ -26,11 +27,17 @@ abbrev pub flag_text : Bool → List ℕ
 flag_text true = codes "true"
 flag_text false = codes "false"
 
--- how an argument of a kind is written: `#k`, `#k.i`, a flag, or a name
+-- how a limit of turns is written: `whole` for none, or a numeral below 2^64
+abbrev pub IsLimit : List ℕ → Option ℕ → Type 0
+IsLimit w None = w ≡ codes "whole"
+IsLimit w (Some n) = (are_some is_digit w ≡ true) × (n ≡ digits_value 10 w) × (n < 2 ^ 64)
+
+-- how an argument of a kind is written: `#k`, `#k.i`, a flag, a limit, or a name
 abbrev pub IsWritten : ArgumentKind → Lexeme → Written → Type 0
 IsWritten k (word w) (reference n) = (is_reference_kind k ≡ true) × (ds : List ℕ) × (w ≡ 35 ∷ ds) × IsNumber ds n
 IsWritten k (word w) (entry n i) = (is_reference_kind k ≡ true) × (ds : List ℕ) × (es : List ℕ) × (w ≡ 35 ∷ ds ++ 46 ∷ es) × IsNumber ds n × IsNumber es i
 IsWritten k (word w) (flag b) = (k ≡ kind.Flag) × (w ≡ flag_text b)
+IsWritten k (word w) (limit n) = (k ≡ kind.Turns) × IsLimit w n
 IsWritten k (word w) (quoted s) = ⊥
 IsWritten k (name s) (quoted t) = (k ≡ kind.Name) × (0 < length s) × (t ≡ s)
 IsWritten k (name s) _ = ⊥
@@ -144,6 +151,7 @@ abbrev pub IsOfKind : ArgumentKind → Written → Type 0
 IsOfKind k (reference n) = is_reference_kind k ≡ true
 IsOfKind k (entry n i) = is_reference_kind k ≡ true
 IsOfKind k (flag b) = k ≡ kind.Flag
+IsOfKind k (limit n) = k ≡ kind.Turns
 IsOfKind k (quoted s) = k ≡ kind.Name
 
 -- the arguments are of the kinds, in order; those behind the first ones are of the repeated kind

@@ -8,13 +8,14 @@ use Rattle.call_script.specs.declared.lines.Line.{Line}
 use Rattle.call_script.specs.declared.lines.Line.TheVariants as line
 use Rattle.call_script.specs.declared.lines.LineError.{LineError}
 use Rattle.call_script.specs.declared.lines.LineError.TheVariants as error
-use Rattle.call_script.specs.Lines.{Written, reference, entry, flag, quoted, Front, part, Reading, nothing, called, unfinished, fault, not_built, bad_byte, unexpected, end_of_input, Says, HasForm}
+use Rattle.call_script.specs.Lines.{Written, reference, entry, flag, limit, quoted, Front, part, Reading, nothing, called, unfinished, fault, not_built, bad_byte, unexpected, end_of_input, Says, HasForm}
 
 -- an argument, as written
 abbrev pub written : Argument → Written
 written (argument.Reference k) = reference k
 written (argument.Entry k i) = entry k i
 written (argument.Flag b) = flag b
+written (argument.Limit n) = limit n
 written (argument.Name s) = quoted s
 
 -- the arguments, as written

@@ -3,7 +3,7 @@ ghost use Rattle.std.specs.Prelude.{◌≡◌, IfOk, true, length, option_map};
 ghost use Rattle.std.specs.List.{list_all};
 ghost use Rattle.yices_grammar.specs.Words as words;
 ghost use Rattle.yices_grammar.specs.Words.{are_some};
-ghost use Rattle.call_script.specs.Judging.{numeral as plain_numeral, reference_of as plain_reference_of, flag_of as plain_flag_of, quoted_of as plain_quoted_of, argument_of as plain_argument_of, argument_at as plain_argument_at};
+ghost use Rattle.call_script.specs.Judging.{numeral as plain_numeral, counted as plain_counted, limit_of as plain_limit_of, reference_of as plain_reference_of, flag_of as plain_flag_of, quoted_of as plain_quoted_of, argument_of as plain_argument_of, argument_at as plain_argument_at};
 ghost use Rattle.call_script.specs.Results.{written};
 ghost use Rattle.call_script.specs.Scanned.{plain_lexeme};
 
@@ -71,6 +71,34 @@ fn flag_of(word: &str) -> Option<Argument>
     None
 }
 
+/// The number of a numeral below `2^64`.
+#[tactic(auto, unfolding(crate::specs::Judging::counted))]
+fn counted(digits: &str) -> Option<u64>
+    ensures { result ≡ plain_counted digits.now }
+{
+    if !are_digits(digits.as_bytes()) {
+        return None;
+    }
+    match digits.parse::<u64>() {
+        Ok(number) => Some(number),
+        Err(_) => None,
+    }
+}
+
+/// A limit of turns, or the word for none.
+#[tactic(auto, unfolding(crate::specs::Judging::limit_of))]
+fn limit_of(word: &str) -> Option<Argument>
+    ensures { option_map written result ≡ plain_limit_of word.now }
+{
+    if word == "whole" {
+        return Some(Argument::Limit(None));
+    }
+    match counted(word) {
+        Some(turns) => Some(Argument::Limit(Some(turns))),
+        None => None,
+    }
+}
+
 /// A name, which isn't empty.
 fn quoted_of(alloc: Global, name: &str) -> Result<Option<Argument>, AllocError>
     ensures { IfOk result (λ a. option_map written a ≡ plain_quoted_of name.now) }
@@ -92,6 +120,7 @@ fn argument_of(
 {
     match (kind, lexeme) {
         (ArgumentKind::Flag, Lexeme::Word(word)) => Ok(flag_of(word)),
+        (ArgumentKind::Turns, Lexeme::Word(word)) => Ok(limit_of(word)),
         (ArgumentKind::Name, Lexeme::Name(name)) => quoted_of(alloc, name),
         (ArgumentKind::Flag, Lexeme::Name(_)) | (ArgumentKind::Name, Lexeme::Word(_)) => Ok(None),
         (_, Lexeme::Word(word)) => Ok(reference_of(word)),

@@ -23,6 +23,8 @@ pub enum Argument {
     Entry(u64, u64),
     /// A flag.
     Flag(bool),
+    /// A limit of turns; none is `whole`.
+    Limit(Option<u64>),
     /// A name, without its quotes.
     Name(Text),
 }

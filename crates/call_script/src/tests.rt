@@ -85,7 +85,7 @@ const ROWS: [(&str, LineEnd, Told); 98] = [
     ("\"a\" #1", N, Told::Unexpected(1)),
     ("real_type", N, Told::Later(1)),
     ("  bv_type 4", N, Told::Later(3)),
-    ("check_context #1 whole", N, Told::Later(1)),
+    ("get_model #1", N, Told::Later(1)),
     ("get_model #1 )", N, Told::Later(1)),
     ("real_type\u{7f}", N, Told::Later(1)),
     ("not 1", N, Told::Unexpected(5)),
@@ -153,6 +153,84 @@ const ROWS: [(&str, LineEnd, Told); 98] = [
     ("not #1 \u{80}", O, Told::Bad(8)),
 ];
 
+// Checks: a context, a limit of turns, and any number of assumptions.
+const CHECKS: [(&str, LineEnd, Told); 24] = [
+    (
+        "check_context #1 whole",
+        N,
+        Told::Call(CallWord::CheckContext, 1, 2),
+    ),
+    (
+        " check_context #1.2 0 ; none",
+        T,
+        Told::Call(CallWord::CheckContext, 2, 2),
+    ),
+    (
+        "check_context #1 18446744073709551615",
+        N,
+        Told::Call(CallWord::CheckContext, 1, 2),
+    ),
+    (
+        "check_context #1 00000000000000000000007",
+        N,
+        Told::Call(CallWord::CheckContext, 1, 2),
+    ),
+    (
+        "check_context_with_assumptions #1 whole",
+        N,
+        Told::Call(CallWord::CheckContextWithAssumptions, 1, 2),
+    ),
+    (
+        "check_context_with_assumptions #1 5 #2 #3.1 #2",
+        N,
+        Told::Call(CallWord::CheckContextWithAssumptions, 1, 5),
+    ),
+    (
+        "get_unsat_core #1",
+        N,
+        Told::Call(CallWord::GetUnsatCore, 1, 1),
+    ),
+    (
+        "check_context #1 18446744073709551616",
+        N,
+        Told::Unexpected(18),
+    ),
+    (
+        "check_context_with_assumptions #1 99999999999999999999 #x",
+        N,
+        Told::Unexpected(35),
+    ),
+    ("check_context #1 +1", N, Told::Unexpected(18)),
+    ("check_context #1 -1", N, Told::Unexpected(18)),
+    ("check_context #1 1x", N, Told::Unexpected(18)),
+    ("check_context #1 Whole", N, Told::Unexpected(18)),
+    ("check_context #1 whole1", N, Told::Unexpected(18)),
+    ("check_context #1 #1", N, Told::Unexpected(18)),
+    ("check_context #1 \"whole\"", N, Told::Unexpected(18)),
+    ("check_context #1 true", N, Told::Unexpected(18)),
+    ("check_context whole #1", N, Told::Unexpected(15)),
+    ("check_context #1 whole #2", N, Told::Unexpected(24)),
+    (
+        "check_context_with_assumptions #1 1 whole",
+        N,
+        Told::Unexpected(37),
+    ),
+    ("not whole", N, Told::Unexpected(5)),
+    ("check_context #1", N, Told::Unexpected(17)),
+    ("check_context_with_assumptions #1 ", T, Told::End(35)),
+    ("check_context #1 whole", O, Told::GoesOn),
+];
+
+// Limits, and what they are.
+const LIMITS: [(&str, Option<u64>); 6] = [
+    ("check_context #1 whole", None),
+    ("check_context #1 0", Some(0)),
+    ("check_context #1 000", Some(0)),
+    ("check_context #1 42", Some(42)),
+    ("check_context #1 0018446744073709551615", Some(u64::MAX)),
+    ("check_context_with_assumptions #1 7 #2", Some(7)),
+];
+
 fn in_short(said: &Result<Line, LineError>) -> Told {
     match said {
         Ok(Line::Empty) => Told::Nothing,
@@ -177,5 +255,34 @@ fn check_rows(rt: &impl Abort, alloc: Global, rows: &[(&str, LineEnd, Told)]) {
 fn each_line_says_what_it_should(rt: HostRuntime) -> Result<(), Fail> {
     let alloc: Global = rt.alloc();
     check_rows(&rt, alloc, &ROWS);
+    Ok(())
+}
+
+#[test]
+fn each_check_has_a_limit(rt: HostRuntime) -> Result<(), Fail> {
+    let alloc: Global = rt.alloc();
+    check_rows(&rt, alloc, &CHECKS);
+    Ok(())
+}
+
+fn second_argument(said: &Result<Line, LineError>) -> Option<&Argument> {
+    match said {
+        Ok(Line::Call(call)) => call.arguments.get(1),
+        _ => None,
+    }
+}
+
+fn check_limits(rt: &impl Abort, alloc: Global, rows: &[(&str, Option<u64>)]) {
+    for row in rows {
+        let said = read_line(alloc, row.0.as_bytes(), LineEnd::Newline);
+        let want = Argument::Limit(row.1);
+        assert_eq!(rt; second_argument(&said), Some(&want), "at {:?}", row.0);
+    }
+}
+
+#[test]
+fn a_limit_is_its_number(rt: HostRuntime) -> Result<(), Fail> {
+    let alloc: Global = rt.alloc();
+    check_limits(&rt, alloc, &LIMITS);
     Ok(())
 }

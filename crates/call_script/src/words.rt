@@ -88,6 +88,12 @@ pub enum CallWord {
     ContextStatus,
     /// Asserts a term in a context.
     AssertFormula,
+    /// Checks the formulas of a context.
+    CheckContext,
+    /// Checks the formulas of a context together with assumptions.
+    CheckContextWithAssumptions,
+    /// The assumptions to blame.
+    GetUnsatCore,
 }
 
 /// What an argument of a call is.
@@ -103,12 +109,14 @@ pub enum ArgumentKind {
     TypeOrTerm,
     /// `true` or `false`.
     Flag,
+    /// A limit of turns, or `whole`.
+    Turns,
     /// A name in quotes.
     Name,
 }
 
 /// The calls, in the order of the manual.
-const CALLS: [CallWord; 39] = [
+const CALLS: [CallWord; 42] = [
     CallWord::BoolType,
     CallWord::True,
     CallWord::False,
@@ -148,10 +156,13 @@ const CALLS: [CallWord; 39] = [
     CallWord::Pop,
     CallWord::ContextStatus,
     CallWord::AssertFormula,
+    CallWord::CheckContext,
+    CallWord::CheckContextWithAssumptions,
+    CallWord::GetUnsatCore,
 ];
 
 /// The words of the calls that aren't built.
-const LATER_WORDS: [&str; 54] = [
+const LATER_WORDS: [&str; 51] = [
     "real_type",
     "new_uninterpreted_type",
     "bv_type",
@@ -198,9 +209,6 @@ const LATER_WORDS: [&str; 54] = [
     "bvsgt_atom",
     "bvsle_atom",
     "bvslt_atom",
-    "check_context",
-    "check_context_with_assumptions",
-    "get_unsat_core",
     "get_model",
     "model_from_map",
     "free_model",
@@ -253,6 +261,9 @@ impl CallWord {
             CallWord::Pop => "pop",
             CallWord::ContextStatus => "context_status",
             CallWord::AssertFormula => "assert_formula",
+            CallWord::CheckContext => "check_context",
+            CallWord::CheckContextWithAssumptions => "check_context_with_assumptions",
+            CallWord::GetUnsatCore => "get_unsat_core",
         }
     }
 
@@ -298,7 +309,12 @@ impl CallWord {
             | CallWord::ResetContext
             | CallWord::Push
             | CallWord::Pop
-            | CallWord::ContextStatus => &[ArgumentKind::Context],
+            | CallWord::ContextStatus
+            | CallWord::GetUnsatCore => &[ArgumentKind::Context],
+            CallWord::CheckContext | CallWord::CheckContextWithAssumptions => &[
+                ArgumentKind::Context,
+                ArgumentKind::Turns,
+            ],
             CallWord::AssertFormula => &[ArgumentKind::Context, ArgumentKind::Term],
         }
     }
@@ -308,9 +324,11 @@ impl CallWord {
         ensures { result ≡ (form_of self).repeated }
     {
         match self {
-            CallWord::And | CallWord::Or | CallWord::Xor | CallWord::Distinct => {
-                Some(ArgumentKind::Term)
-            }
+            CallWord::And
+            | CallWord::Or
+            | CallWord::Xor
+            | CallWord::Distinct
+            | CallWord::CheckContextWithAssumptions => Some(ArgumentKind::Term),
             CallWord::GarbageCollect => Some(ArgumentKind::TypeOrTerm),
             _ => None,
         }

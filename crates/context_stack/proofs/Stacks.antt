@@ -1,11 +1,15 @@
 -- Levels by marks: what an item more, a mark more and a mark less do to them, and where one stands.
-use Rattle.std.proofs.Common.{◌≡◌, ◌∙◌, ◌+◌, ◌-◌, ◌<◌, ◌≤◌, ◌++◌, ℕ, List, [], ◌∷◌, Some, zero, suc, refl, sym, ap, subst, inl, inr, ◌⊎◌, ⊎_elim, length, take, drop, reverse, get_or, arith, length-append, length-drop}
+use Rattle.std.proofs.Common.{◌≡◌, ◌∙◌, ◌+◌, ◌-◌, ◌<◌, ◌≤◌, ◌++◌, ℕ, List, [], ◌∷◌, Some, zero, suc, refl, sym, ap, subst, inl, inr, ◌⊎◌, ⊎_elim, length, take, drop, reverse, get_or, arith, length-append, length-drop, append_assoc, append-nil}
 use Rattle.std.specs.Prelude.{slice_get, slice_range}
-use Rattle.std.proofs.lemmas.List.{reverse-append, reverse-reverse, length-reverse, take_all, drop_all, take-append-le, drop-append-le, length-take-le}
+use Rattle.std.proofs.lemmas.List.{reverse-append, reverse-reverse, length-reverse, take_all, drop_all, take-append-le, drop-append-le, length-take-le, take-append-drop}
 use Rattle.std.proofs.lemmas.Bool.{cases_lt}
+use Rattle.std.proofs.lemmas.Option.{same_Some, slice_get_within}
 use Rattle.stamped_slots.proofs.Lists.{push_here, push_old}
 use Rattle.term_shapes.specs.declared.handles.Term.{Term}
-use Rattle.context_stack.specs.Levels.{levels_in, AreMarks, IsStack}
+use Rattle.term_table.specs.World.{World}
+use Rattle.term_checks.specs.Formulas.{AreFormulas}
+use Rattle.term_checks.proofs.Starts.{in_either}
+use Rattle.context_stack.specs.Levels.{levels_in, AreMarks, IsStack, formulas}
 use Rattle.context_stack.specs.Steps.{Asserts, Pops}
 
 pub count_levels : (ts : List Term) (ms : List ℕ) → length (levels_in ts ms) ≡ suc (length ms)
@@ -22,6 +26,36 @@ reverse_more x xs = reverse-append (x ∷ []) xs
 -- the number of levels, where the marks stand oldest first
 pub level_count : (ts : List Term) (ms : List ℕ) → length (levels_in ts (reverse ms)) ≡ length ms + 1
 level_count ts ms = omega (arith, count_levels ts (reverse ms), length-reverse ms)
+
+-- the formulas of the levels are the whole list
+formulas_push : (ls : List (List Term)) (ts : List Term) → formulas (ls ++ ts ∷ []) ≡ formulas ls ++ ts
+formulas_push [] ts = append-nil ts
+formulas_push (l ∷ ls) ts = ap (λ r. l ++ r) (formulas_push ls ts) ∙ sym (append_assoc l (formulas ls) ts)
+
+pub formulas_in : (ts : List Term) (ms : List ℕ) → formulas (levels_in ts ms) ≡ ts
+formulas_in ts [] = append-nil ts
+formulas_in ts (m ∷ ms) =
+    formulas_push (levels_in (take m ts) ms) (drop m ts)
+    ∙ ap (λ r. r ++ drop m ts) (formulas_in (take m ts) ms)
+    ∙ take-append-drop m ts
+
+-- where each level has formulas alone, so have all together
+pub all_levels : (w : World) (ls : List (List Term)) → ((k : ℕ) (ts : List Term) → slice_get ls k ≡ Some ts → AreFormulas w ts) → AreFormulas w (formulas ls)
+all_levels w [] each t h = absurd (cc h.at)
+all_levels w (l ∷ ls) each t h =
+    ⊎_elim (λ i. each 0 l refl t i) (λ i. all_levels w ls (λ k ts at. each (suc k) ts at) t i) (in_either l (formulas ls) t h)
+
+pub more_levels : (w : World) (ls : List (List Term)) (i : ℕ) (ts : List Term) → slice_get ls i ≡ Some ts → AreFormulas w ts → ((k : ℕ) (us : List Term) → k < i → slice_get ls k ≡ Some us → AreFormulas w us)
+    → (k : ℕ) (us : List Term) → k < i + 1 → slice_get ls k ≡ Some us → AreFormulas w us
+more_levels w ls i ts at here before k us below there = ⊎_elim
+    (λ h. before k us h there)
+    (λ h. let same : k ≡ i = omega (arith, h, below) in subst (AreFormulas w) (same_Some ts us (sym at ∙ ap (slice_get ls) (sym same) ∙ there)) here)
+    (cases_lt k i)
+
+pub levels_hold : (w : World) (ls : List (List Term)) (n : ℕ) (ts : List Term) → n + 1 ≡ length ls → slice_get ls n ≡ Some ts → AreFormulas w ts → ((k : ℕ) (us : List Term) → k < n → slice_get ls k ≡ Some us → AreFormulas w us)
+    → AreFormulas w (formulas ls)
+levels_hold w ls n ts e at here before =
+    all_levels w ls (λ k us there. more_levels w ls n ts at here before k us (omega (arith, e, slice_get_within ls k us there)) there)
 
 marks_up : (ms : List ℕ) (m n : ℕ) → m ≤ n → AreMarks ms m → AreMarks ms n
 marks_up [] m n le h = tt

@@ -16,3 +16,8 @@ AreMarks (m ∷ ms) n = (m ≤ n) × AreMarks ms m
 pub record IsStack (marks : List ℕ) (formulas : List Term) : Type 0 where
   pub fall : AreMarks (reverse marks) (length formulas)
   pub few : length marks ≤ 65536
+
+-- all formulas, from the bottom level to the newest
+abbrev pub formulas : List (List Term) → List Term
+formulas [] = []
+formulas (ts ∷ ls) = ts ++ formulas ls

@@ -1,2 +1,4 @@
 pub mod Levels
+pub mod States
 pub mod Steps
+pub mod Checks

@@ -20,11 +20,6 @@ pub record Pops (old new : List (List Term)) : Type 0 where
   pub newest : List Term
   pub before : old ≡ new ++ newest ∷ []
 
--- a live term whose type stands for the truth values, with no variable below it
-pub record IsFormula (w : World) (t : Term) : Type 0 where
-  pub sort : HasSort w t boolean
-  pub closed : (v : Term) → IsBelow w v t → IsVariable w v → ⊥
-
 -- the term is dead, or else no truth value, or else a variable is below it; memory is refused to none of the first two
 abbrev pub RefusesFormula : World → Term → ContextError → Type 0
 RefusesFormula w t (error.DeadTerm place) = (place ≡ 1) × IsNone (node_at w t)

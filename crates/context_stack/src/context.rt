@@ -1,34 +1,36 @@
-//! The levels of a context.
-ghost use Rattle.std.specs.Prelude.{◌≡◌, ◌+◌, ◌<◌, ◌≤◌, ◌∷◌, ◌++◌, [], IfOk, IfErr, OnOk, OnErr, IsNone, Some, slice_get, slice_index_or, slice_range, length};
-ghost use Rattle.context_stack.specs.Steps.{Asserts, Pops, IsFormula, RefusesFormula, RefusesPush};
+//! A context: its levels, and what the newest check found of them.
+ghost use Rattle.std.specs.Prelude.{◌≡◌, ◌+◌, ◌<◌, ◌∷◌, ◌++◌, [], IfOk, IfErr, OnOk, OnErr, None, Some, slice_get, length};
+ghost use Rattle.std.specs.Option.{option_map};
+ghost use Rattle.term_checks.specs.Formulas.{AreFormulas, IsFormula};
+ghost use Rattle.context_stack.specs.Levels.{formulas};
+ghost use Rattle.context_stack.specs.States.{IsUnchecked};
+ghost use Rattle.context_stack.specs.Steps.{Asserts, Pops, RefusesFormula, RefusesPush};
+ghost use Rattle.context_stack.specs.Checks.{Checks, RefusesAssumptions, status_of};
 
+use crate::checks::{Checked, check_of};
 use crate::errors::{ContextError, Status};
-use crate::judging::judge;
+use crate::judging::refusal_of;
+use crate::stack::Stack;
 use std::alloc::{AllocError, Global};
 use std::marker::Model;
-use term_table::{Table, Term};
+use term_checks::Turns;
+use term_table::{Table, Term, Terms};
 
-/// The most levels that may be open over the bottom one.
-const MOST_LEVELS: usize = 65_536;
-
-/// The formulas that were asserted, level by level.
+/// The formulas that were asserted, level by level, and what the newest check found of them.
 #[derive(Drop)]
 pub struct Context {
     alloc: Global,
-    formulas: Vec<Term>,
-    marks: Vec<usize>,
+    stack: Stack,
+    status: Status,
+    core: Option<Terms>,
 }
 
 impl Model for Context {
-    ghost use Rattle.std.specs.Prelude.{List, reverse};
-    ghost use Rattle.term_shapes.specs.declared.handles.Term.{Term};
-    ghost use Rattle.context_stack.specs.Levels.{levels_in, IsStack};
+    ghost use Rattle.context_stack.specs.States.{ContextState};
 
-    ghost Value = { List (List Term) };
+    ghost Value = { ContextState };
 
-    ghost view = { λ c. levels_in c.formulas.items (reverse c.marks.items) };
-
-    ghost invariant = { λ c. IsStack c.marks.items c.formulas.items };
+    ghost view = { λ c. record { levels = c.stack; status = c.status; core = c.core } };
 }
 
 impl Context {
@@ -38,12 +40,15 @@ impl Context {
     ///
     /// Where memory is refused.
     pub fn new(alloc: Global) -> Result<Context, AllocError>
-        ensures { IfOk result (λ context. context ≡ [] ∷ []) }
+        ensures levels { IfOk result (λ context. context.levels ≡ [] ∷ []) }
+        ensures unchecked { IfOk result (λ context. IsUnchecked context) }
     {
+        let stack = Stack::new(alloc)?;
         Ok(Context {
             alloc,
-            formulas: Vec::new(alloc),
-            marks: Vec::new(alloc),
+            stack,
+            status: Status::Idle,
+            core: None,
         })
     }
 
@@ -55,13 +60,14 @@ impl Context {
     /// `DeadTerm(1)` exactly where the term is dead; else `NotBool(1)` exactly where it is no truth value; else
     /// `HasVariable` exactly where a variable is below it, with one of those; `NoMemory`. Then nothing changes.
     pub fn assert(&mut self, table: &Table, t: Term) -> Result<(), ContextError>
-        ensures asserted { OnOk result (Asserts self.old self.new t) }
+        ensures asserted { OnOk result (Asserts self.old.levels self.new.levels t) }
         ensures formula { OnOk result (IsFormula table.now t) }
+        ensures unchecked { OnOk result (IsUnchecked self.new) }
         ensures refused { IfErr result (λ e. RefusesFormula table.now t e) }
         ensures same { OnErr result (self.new ≡ self.old) }
     {
-        judge(self.alloc, table, t)?;
-        append(&mut self.formulas, t)?;
+        self.stack.assert(table, t)?;
+        self.forget();
         Ok(())
     }
 
@@ -71,16 +77,14 @@ impl Context {
     ///
     /// `TooDeep` exactly where 65,536 levels are open; `NoMemory`. Then nothing changes.
     pub fn push(&mut self) -> Result<(), ContextError>
-        ensures opened { OnOk result (self.new ≡ self.old ++ [] ∷ []) }
-        ensures room { OnOk result (length self.old < 65537) }
-        ensures refused { IfErr result (λ e. RefusesPush self.old e) }
+        ensures opened { OnOk result (self.new.levels ≡ self.old.levels ++ [] ∷ []) }
+        ensures room { OnOk result (length self.old.levels < 65537) }
+        ensures unchecked { OnOk result (IsUnchecked self.new) }
+        ensures refused { IfErr result (λ e. RefusesPush self.old.levels e) }
         ensures same { OnErr result (self.new ≡ self.old) }
     {
-        if self.marks.len() >= MOST_LEVELS {
-            return Err(ContextError::TooDeep);
-        }
-        let mark = self.formulas.len();
-        append(&mut self.marks, mark)?;
+        self.stack.push()?;
+        self.forget();
         Ok(())
     }
 
@@ -90,100 +94,130 @@ impl Context {
     ///
     /// `BottomLevel` exactly where no level is open but the bottom one. Then nothing changes.
     pub fn pop(&mut self) -> Result<(), ContextError>
-        ensures popped { OnOk result (Pops self.old self.new) }
-        ensures refused { IfErr result (λ e. (e ≡ ContextError.BottomLevel) × (length self.old ≡ 1)) }
-        ensures above { OnOk result (1 < length self.old) }
+        ensures popped { OnOk result (Pops self.old.levels self.new.levels) }
+        ensures above { OnOk result (1 < length self.old.levels) }
+        ensures unchecked { OnOk result (IsUnchecked self.new) }
+        ensures refused { IfErr result (λ e. (e ≡ ContextError.BottomLevel) × (length self.old.levels ≡ 1)) }
         ensures same { OnErr result (self.new ≡ self.old) }
     {
-        match self.marks.pop() {
-            Some(mark) => {
-                self.formulas.truncate(mark);
-                Ok(())
-            }
-            None => Err(ContextError::BottomLevel),
-        }
+        self.stack.pop()?;
+        self.forget();
+        Ok(())
     }
 
     /// Takes all levels and formulas away. This takes no memory.
     pub fn reset(&mut self)
-        ensures { self.new ≡ [] ∷ [] }
+        ensures levels { self.new.levels ≡ [] ∷ [] }
+        ensures unchecked { IsUnchecked self.new }
     {
-        self.formulas.clear();
-        self.marks.clear();
+        self.stack.reset();
+        self.forget();
+    }
+
+    /// Forgets what the newest check found.
+    fn forget(&mut self)
+        ensures levels { self.new.levels ≡ self.old.levels }
+        ensures unchecked { IsUnchecked self.new }
+    {
+        self.status = Status::Idle;
+        self.core = None;
+    }
+
+    /// Checks the formulas that are on the levels now, from nothing: whatever was checked or popped before doesn't count.
+    /// The verdict is the status from then on, and no core is kept. Beside the search the time is expected linear in the
+    /// distinct subterms and their arguments.
+    pub fn check(&mut self, table: &Table, turns: Turns) -> Checked
+        requires { AreFormulas table.now (formulas self.old.levels) }
+        ensures { Checks table.now None turns result self.old self.new }
+    {
+        let found = check_of(self.alloc, table, self.stack.formulas(), &[], turns);
+        self.keep(&found.answer, None);
+        found.answer
+    }
+
+    /// Checks the formulas that are on the levels now together with assumptions. Where they can't all be true, some
+    /// assumptions to blame are kept as the core: each once, in the order of their first places. Each different assumption
+    /// costs a level of the search.
+    ///
+    /// # Errors
+    ///
+    /// `DeadTerm` for the first dead assumption, by its place from 1 on; else `NotBool` for the first that is no truth
+    /// value; else `HasVariable` with a variable of the first that has one. Then nothing changes. Want of memory is the
+    /// answer `NoMemory`.
+    pub fn check_assuming(
+        &mut self,
+        table: &Table,
+        assumed: &[Term],
+        turns: Turns,
+    ) -> Result<Checked, ContextError>
+        requires { AreFormulas table.now (formulas self.old.levels) }
+        ensures checked { IfOk result (λ found. Checks table.now (Some assumed.now) turns found self.old self.new) }
+        ensures refused { IfErr result (λ e. RefusesAssumptions table.now assumed.now e) }
+        ensures same { OnErr result (self.new ≡ self.old) }
+    {
+        let Ok(found) = refusal_of(self.alloc, table, assumed) else {
+            self.forget();
+            return Ok(Checked::NoMemory);
+        };
+        match found {
+            None => Ok(self.check_with(table, assumed, turns)),
+            Some(refusal) => Err(refusal),
+        }
+    }
+
+    /// Checks the formulas together with assumptions that are formulas, and keeps the core.
+    fn check_with(&mut self, table: &Table, assumed: &[Term], turns: Turns) -> Checked
+        requires formulas { AreFormulas table.now (formulas self.old.levels) }
+        requires assumptions { AreFormulas table.now assumed.now }
+        ensures { Checks table.now (Some assumed.now) turns result self.old self.new }
+    {
+        let found = check_of(self.alloc, table, self.stack.formulas(), assumed, turns);
+        let core = found.core;
+        self.keep(&found.answer, core);
+        found.answer
+    }
+
+    /// Keeps what a check found.
+    fn keep(&mut self, answer: &Checked, core: Option<Terms>)
+        ensures levels { self.new.levels ≡ self.old.levels }
+        ensures status { self.new.status ≡ status_of answer.now }
+        ensures core { self.new.core ≡ core }
+    {
+        self.status = answer.status();
+        self.core = core;
     }
 
     /// How many levels are open over the bottom one.
     pub fn levels(&self) -> usize
-        ensures { result + 1 ≡ length self.now }
+        ensures { result + 1 ≡ length self.now.levels }
     {
-        self.marks.len()
+        self.stack.levels()
     }
 
     /// The formulas of a level, oldest first; the bottom level has the number 0. The time is constant.
     pub fn roots(&self, level: usize) -> &[Term]
-        requires { level < length self.now }
-        ensures { slice_get self.now level ≡ Some result.now }
+        requires { level < length self.now.levels }
+        ensures { slice_get self.now.levels level ≡ Some result.now }
     {
-        let formulas = self.formulas.as_slice();
-        let marks = self.marks.as_slice();
-        let from = begin_of(marks, level);
-        let to = end_of(marks, level, formulas.len());
-        part_of(formulas, from, to)
+        self.stack.roots(level)
     }
 
-    /// What is known of the formulas.
+    /// What is known of the formulas: the verdict of the newest check, where nothing was asserted, pushed, popped or reset
+    /// since, and nothing was checked without a verdict.
     pub fn status(&self) -> Status
-        ensures { result ≡ Status.Idle }
+        ensures { result ≡ self.now.status }
     {
-        Status::Idle
+        self.status
     }
 
-    /// Assumptions that are not true together with the formulas, where the last check found some.
+    /// Assumptions that can't be true together with the formulas, where the newest call that changed the context was a
+    /// check with assumptions that found so.
     pub fn core(&self) -> Option<&[Term]>
-        ensures { IsNone result }
+        ensures { option_map (λ ts. ts.now) result ≡ self.now.core }
     {
-        None
-    }
-}
-
-/// How many formulas stand below a level.
-fn begin_of(marks: &[usize], level: usize) -> usize
-    requires { level ≤ length marks.now }
-    ensures { result ≡ slice_index_or (0 ∷ marks.now) level 0 }
-{
-    if level == 0 {
-        return 0;
-    }
-    marks[level - 1]
-}
-
-/// How many formulas stand up to the end of a level, where there are so many in all.
-fn end_of(marks: &[usize], level: usize, all: usize) -> usize
-    ensures { result ≡ slice_index_or marks.now level all }
-{
-    if level < marks.len() {
-        return marks[level];
-    }
-    all
-}
-
-/// The terms between two places.
-fn part_of(terms: &[Term], from: usize, to: usize) -> &[Term]
-    requires order { from ≤ to }
-    requires within { to ≤ length terms.now }
-    ensures { result.now ≡ slice_range terms.now from to }
-{
-    &terms[from..to]
-}
-
-/// Adds an item at the end.
-fn append<T: Drop>(list: &mut Vec<T>, item: T) -> Result<(), ContextError>
-    ensures ok { OnOk result (list.new.items ≡ list.old.items ++ item ∷ []) }
-    ensures err { OnErr result (list.new.items ≡ list.old.items) }
-    ensures cause { IfErr result (λ e. e ≡ ContextError.NoMemory) }
-{
-    match list.push(item) {
-        Ok(()) => Ok(()),
-        Err(_) => Err(ContextError::NoMemory),
+        match &self.core {
+            Some(core) => Some(core.as_slice()),
+            None => None,
+        }
     }
 }

@@ -4,8 +4,14 @@ use term_table::Term;
 /// What is known of the formulas of a context.
 #[derive(Clone, Copy, Debug, PartialEq, Eq, Drop)]
 pub enum Status {
-    /// No check has answered since they changed.
+    /// No check has answered with a verdict since they changed.
     Idle,
+    /// The newest check found values under which they, and its assumptions, are true.
+    Sat,
+    /// The newest check found that there are none.
+    Unsat,
+    /// The newest check came to its limit.
+    Unknown,
 }
 
 /// Why a call of a context was refused.

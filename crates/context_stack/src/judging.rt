@@ -1,33 +1,18 @@
 //! Which terms are formulas.
-ghost use Rattle.std.specs.Prelude.{◌≡◌, ◌↔◌, IsSome, IsTrue, IfErr, IfNone, IfOk, IfSome, OnOk};
-ghost use Rattle.y_tree.specs.Sorts.{boolean};
+ghost use Rattle.std.specs.Prelude.{◌≡◌, ℕ, IsSome, IfErr, IfNone, IfOk, IfSome, OnOk};
+ghost use Rattle.term_table.specs.World.{node_at};
+ghost use Rattle.term_table.specs.Checking.{AreLive, IsFirstDead};
+ghost use Rattle.term_orders.specs.Orders.{IsBelow, IsIn, IsVariable};
 ghost use Rattle.term_shapes.specs.declared.handles.Term.{Term};
-ghost use Rattle.term_table.specs.World.{node_at, HasTypeShape};
-ghost use Rattle.term_orders.specs.Orders.{IsBelow, IsVariable};
-ghost use Rattle.term_table.specs.Checking.{HasSort};
-ghost use Rattle.context_stack.specs.Steps.{IsFormula, RefusesFormula};
+ghost use Rattle.term_checks.specs.Formulas.{AreFormulas, IsFormula};
+ghost use Rattle.context_stack.specs.Steps.{RefusesFormula};
+ghost use Rattle.context_stack.specs.Checks.{AreTruthValues, HasFirstVariable, IsFirstOther, RefusesAssumptions};
 
 use crate::errors::ContextError;
-use std::alloc::Global;
+use std::alloc::{AllocError, Global};
+use term_checks::is_truth_value;
 use term_orders::first_variable;
-use term_table::{Table, Term, TypeId, TypeShape};
-
-/// Whether the type is that of truth values.
-fn is_bool_type(table: &Table, of: TypeId) -> bool
-    ensures { IsTrue result ↔ HasTypeShape table.now of TypeShape.Bool }
-{
-    matches!(table.type_shape(of), Some(TypeShape::Bool))
-}
-
-/// Whether the term is a truth value.
-fn is_bool(table: &Table, t: Term) -> bool
-    ensures { IsTrue result ↔ HasSort table.now t boolean }
-{
-    let Some(of) = table.type_of(t) else {
-        return false;
-    };
-    is_bool_type(table, of)
-}
+use term_table::{Table, Term};
 
 /// A variable below a live term.
 fn variable_below(alloc: Global, table: &Table, t: Term) -> Result<Option<Term>, ContextError>
@@ -50,12 +35,106 @@ pub(crate) fn judge(alloc: Global, table: &Table, t: Term) -> Result<(), Context
     if !table.is_live(t) {
         return Err(ContextError::DeadTerm(1));
     }
-    if !is_bool(table, t) {
+    if !is_truth_value(table, t) {
         return Err(ContextError::NotBool(1));
     }
     let found = variable_below(alloc, table, t)?;
     match found {
         None => Ok(()),
         Some(v) => Err(ContextError::HasVariable(v)),
+    }
+}
+
+/// The place of the first dead term, from 1 on.
+fn first_dead(table: &Table, terms: &[Term]) -> Option<usize>
+    ensures dead { IfSome result (λ place. IsFirstDead table.now terms.now place) }
+    ensures live { IfNone result (AreLive table.now terms.now) }
+{
+    for (i, t) in terms.iter().enumerate() {
+        if !table.is_live(*t) {
+            return Some(i + 1);
+        }
+    }
+    None
+}
+
+/// The place of the first term that is no truth value, from 1 on.
+fn first_other(table: &Table, terms: &[Term]) -> Option<usize>
+    ensures other { IfSome result (λ place. IsFirstOther table.now terms.now place) }
+    ensures none { IfNone result (AreTruthValues table.now terms.now) }
+{
+    for (i, t) in terms.iter().enumerate() {
+        if !is_truth_value(table, *t) {
+            return Some(i + 1);
+        }
+    }
+    None
+}
+
+/// A variable below the first of the live terms that has one.
+fn variable_below_some(
+    alloc: Global,
+    table: &Table,
+    terms: &[Term],
+) -> Result<Option<Term>, AllocError>
+    requires { AreLive table.now terms.now }
+    ensures some { IfOk result (λ found. IfSome found (HasFirstVariable table.now terms.now)) }
+    ensures none { IfOk result (λ found. IfNone found ((t v : Term) → IsIn terms.now t → IsBelow table.now v t → IsVariable table.now v → ⊥)) }
+{
+    for t in terms {
+        if let Some(v) = first_variable(alloc, table, *t)? {
+            return Ok(Some(v));
+        }
+    }
+    Ok(None)
+}
+
+/// Why the terms aren't all formulas, where they aren't.
+pub(crate) fn refusal_of(
+    alloc: Global,
+    table: &Table,
+    terms: &[Term],
+) -> Result<Option<ContextError>, AllocError>
+    ensures some { IfOk result (λ found. IfSome found (RefusesAssumptions table.now terms.now)) }
+    ensures none { IfOk result (λ found. IfNone found (AreFormulas table.now terms.now)) }
+{
+    match first_dead(table, terms) {
+        Some(place) => Ok(Some(ContextError::DeadTerm(place))),
+        None => refusal_of_live(alloc, table, terms),
+    }
+}
+
+/// The same of live terms.
+fn refusal_of_live(
+    alloc: Global,
+    table: &Table,
+    terms: &[Term],
+) -> Result<Option<ContextError>, AllocError>
+    requires { AreLive table.now terms.now }
+    ensures some { IfOk result (λ found. IfSome found (RefusesAssumptions table.now terms.now)) }
+    ensures none { IfOk result (λ found. IfNone found (AreFormulas table.now terms.now)) }
+{
+    match first_other(table, terms) {
+        Some(place) => Ok(Some(ContextError::NotBool(place))),
+        None => refusal_of_truth_values(alloc, table, terms),
+    }
+}
+
+/// The same of live truth values.
+#[tactic(auto, using(crate::proofs::Checking::closed_formulas))]
+fn refusal_of_truth_values(
+    alloc: Global,
+    table: &Table,
+    terms: &[Term],
+) -> Result<Option<ContextError>, AllocError>
+    requires live { AreLive table.now terms.now }
+    requires sorts { AreTruthValues table.now terms.now }
+    ensures some { IfOk result (λ found. IfSome found (RefusesAssumptions table.now terms.now)) }
+    ensures none { IfOk result (λ found. IfNone found (AreFormulas table.now terms.now)) }
+{
+    let found = variable_below_some(alloc, table, terms)?;
+    match found {
+        Some(v) => Ok(Some(ContextError::HasVariable(v))),
+        None => Ok(None),
     }
 }

@@ -7,7 +7,7 @@ use Rattle.call_script.specs.Lines.{Written, HasForm}
 use Rattle.yices_api.specs.declared.calls.Call.{Call}
 use Rattle.yices_api.specs.declared.replies.CallError.{CallError}
 use Rattle.yices_api.specs.declared.replies.CallError.TheVariants as refusal
-use Rattle.script_session.specs.declared.meant.Handle.{Handle}
+use Rattle.script_session.specs.declared.meant.Gave.{Gave}
 use Rattle.script_session.specs.declared.meant.Meant.{Meant}
 use Rattle.script_session.specs.CallTable.{call_of}
 use Rattle.script_session.specs.Asking.{meaning, AllMean, is_of_kind, IsRefusedAsWritten, AsksFor}
@@ -63,7 +63,7 @@ values {A} {B} f (x ∷ xs) h = add (value_of (f x) (h 0 x refl)) (values f xs (
     add : (y : B) × (f x ≡ Some y) → (ys : List B) × (map f xs ≡ map Some ys) → (zs : List B) × (map f (x ∷ xs) ≡ map Some zs)
     add (y, e) (ys, g) = (y ∷ ys, cc (e, g))
 
-module _ (given : List (Option Handle)) (w : CallWord) (args : List Written) (form : HasForm w args) where
+module _ (given : List Gave) (w : CallWord) (args : List Written) (form : HasForm w args) where
   abbrev Asked : Type 0
   Asked = ((e : CallError) × IsRefusedAsWritten given w args e) ⊎ ((c : Call) × AsksFor given w args c)
 

@@ -12,6 +12,7 @@ use Rattle.call_script.specs.declared.words.ArgumentKind.{ArgumentKind}
 use Rattle.call_script.specs.declared.words.ArgumentKind.TheVariants as kind
 use Rattle.call_script.specs.Calls.{form_of, kind_at, kind_among}
 use Rattle.call_script.specs.Lines.{Written, HasForm, HaveKinds, IsOfKind}
+use Rattle.clause_search.specs.declared.Turns.{Turns}
 use Rattle.yices_api.specs.declared.handles.ContextId.{ContextId}
 use Rattle.yices_api.specs.declared.calls.Call.{Call}
 use Rattle.yices_api.specs.declared.calls.Call.TheVariants as call
@@ -19,7 +20,7 @@ use Rattle.script_session.specs.declared.meant.Handle.{Handle}
 use Rattle.script_session.specs.declared.meant.Handle.TheVariants as handle
 use Rattle.script_session.specs.declared.meant.Meant.{Meant}
 use Rattle.script_session.specs.declared.meant.Meant.TheVariants as meant
-use Rattle.script_session.specs.CallTable.{bare, one_term, one_type, one_context, one_name, two_terms, named_term, named_type, formula_in, three_terms, all_terms, all_marked, flag_and_marked, call_of}
+use Rattle.script_session.specs.CallTable.{bare, one_term, one_type, one_context, one_name, two_terms, named_term, named_type, formula_in, three_terms, all_terms, all_marked, flag_and_marked, context_and_turns, check_and_terms, call_of}
 use Rattle.script_session.specs.Asking.{meaning, AllMean, is_of_kind}
 
 -- what arguments stand for has these kinds, in order, and those behind them the repeated one
@@ -60,6 +61,7 @@ term_is (meant.Handle (handle.TypeId t)) h = absurd (cc h)
 term_is (meant.Handle (handle.Context c)) h = absurd (cc h)
 term_is (meant.Flag b) h = absurd (cc h)
 term_is (meant.Name s) h = absurd (cc h)
+term_is (meant.Turns n) h = absurd (cc h)
 
 type_is : (m : Meant) → is_of_kind (Some kind.Type) m ≡ true → (t : TypeId) × (m ≡ meant.Handle (handle.TypeId t))
 type_is (meant.Handle (handle.TypeId t)) h = (t, refl)
@@ -67,6 +69,7 @@ type_is (meant.Handle (handle.Term t)) h = absurd (cc h)
 type_is (meant.Handle (handle.Context c)) h = absurd (cc h)
 type_is (meant.Flag b) h = absurd (cc h)
 type_is (meant.Name s) h = absurd (cc h)
+type_is (meant.Turns n) h = absurd (cc h)
 
 context_is : (m : Meant) → is_of_kind (Some kind.Context) m ≡ true → (c : ContextId) × (m ≡ meant.Handle (handle.Context c))
 context_is (meant.Handle (handle.Context c)) h = (c, refl)
@@ -74,6 +77,7 @@ context_is (meant.Handle (handle.Term t)) h = absurd (cc h)
 context_is (meant.Handle (handle.TypeId t)) h = absurd (cc h)
 context_is (meant.Flag b) h = absurd (cc h)
 context_is (meant.Name s) h = absurd (cc h)
+context_is (meant.Turns n) h = absurd (cc h)
 
 name_is : (m : Meant) → is_of_kind (Some kind.Name) m ≡ true → (s : List ℕ) × (m ≡ meant.Name s)
 name_is (meant.Name s) h = (s, refl)
@@ -81,6 +85,7 @@ name_is (meant.Handle (handle.Term t)) h = absurd (cc h)
 name_is (meant.Handle (handle.TypeId t)) h = absurd (cc h)
 name_is (meant.Handle (handle.Context c)) h = absurd (cc h)
 name_is (meant.Flag b) h = absurd (cc h)
+name_is (meant.Turns n) h = absurd (cc h)
 
 flag_is : (m : Meant) → is_of_kind (Some kind.Flag) m ≡ true → (b : Bool) × (m ≡ meant.Flag b)
 flag_is (meant.Flag b) h = (b, refl)
@@ -88,6 +93,15 @@ flag_is (meant.Handle (handle.Term t)) h = absurd (cc h)
 flag_is (meant.Handle (handle.TypeId t)) h = absurd (cc h)
 flag_is (meant.Handle (handle.Context c)) h = absurd (cc h)
 flag_is (meant.Name s) h = absurd (cc h)
+flag_is (meant.Turns n) h = absurd (cc h)
+
+turns_is : (m : Meant) → is_of_kind (Some kind.Turns) m ≡ true → (n : Turns) × (m ≡ meant.Turns n)
+turns_is (meant.Turns n) h = (n, refl)
+turns_is (meant.Handle (handle.Term t)) h = absurd (cc h)
+turns_is (meant.Handle (handle.TypeId t)) h = absurd (cc h)
+turns_is (meant.Handle (handle.Context c)) h = absurd (cc h)
+turns_is (meant.Flag b) h = absurd (cc h)
+turns_is (meant.Name s) h = absurd (cc h)
 
 -- a mapped option has a value where the option has one
 mapped : {A B : Type 0} (f : A → B) (o : Option A) → IsSome o → IsSome (option_map f o)
@@ -157,6 +171,7 @@ for_terms (meant.Handle (handle.TypeId t) ∷ ms) h = absurd (cc h.0)
 for_terms (meant.Handle (handle.Context c) ∷ ms) h = absurd (cc h.0)
 for_terms (meant.Flag b ∷ ms) h = absurd (cc h.0)
 for_terms (meant.Name s ∷ ms) h = absurd (cc h.0)
+for_terms (meant.Turns n ∷ ms) h = absurd (cc h.0)
 
 for_marked : (ms : List Meant) → Fit [] (Some kind.TypeOrTerm) ms → IsSome (all_marked ms)
 for_marked [] h = refl
@@ -165,12 +180,25 @@ for_marked (meant.Handle (handle.TypeId t) ∷ ms) h = mapped (λ rs. marked.Typ
 for_marked (meant.Handle (handle.Context c) ∷ ms) h = absurd (cc h.0)
 for_marked (meant.Flag b ∷ ms) h = absurd (cc h.0)
 for_marked (meant.Name s ∷ ms) h = absurd (cc h.0)
+for_marked (meant.Turns n ∷ ms) h = absurd (cc h.0)
 
 for_roots : (ms : List Meant) → Fit (kind.Flag ∷ []) (Some kind.TypeOrTerm) ms → IsSome (flag_and_marked ms)
 for_roots [] h = absurd h
 for_roots (meant.Flag b ∷ ms) h = mapped (λ rs. (b, rs)) (all_marked ms) (for_marked ms h.1)
 for_roots (meant.Handle x ∷ ms) h = let t = flag_is (meant.Handle x) h.0 in absurd (cc t.1)
 for_roots (meant.Name s ∷ ms) h = absurd (cc h.0)
+for_roots (meant.Turns n ∷ ms) h = absurd (cc h.0)
+
+for_check : (ms : List Meant) → Fit (kind.Context ∷ kind.Turns ∷ []) None ms → IsSome (context_and_turns ms)
+for_check [] h = absurd h
+for_check (m ∷ []) h = absurd h.1
+for_check (m ∷ n ∷ []) h = let t = context_is m h.0 in let u = turns_is n h.1.0 in rw (t.1, u.1)
+for_check (m ∷ n ∷ o ∷ ms) h = absurd h.1.1
+
+for_assumed : (ms : List Meant) → Fit (kind.Context ∷ kind.Turns ∷ []) (Some kind.Term) ms → IsSome (check_and_terms ms)
+for_assumed [] h = absurd h
+for_assumed (m ∷ []) h = absurd h.1
+for_assumed (m ∷ n ∷ ms) h = let t = context_is m h.0 in let u = turns_is n h.1.0 in rw (t.1, u.1) (mapped (λ ts. (t.0, u.0, ts)) (all_terms ms) (for_terms ms h.1.1))
 
 -- each word has its call
 for_word : (w : CallWord) (ms : List Meant) → Fit (form_of w).fixed (form_of w).repeated ms → IsSome (call_of w ms)
@@ -213,6 +241,9 @@ for_word word.Push ms h = mapped call.Push (one_context ms) (for_context ms h)
 for_word word.Pop ms h = mapped call.Pop (one_context ms) (for_context ms h)
 for_word word.ContextStatus ms h = mapped call.ContextStatus (one_context ms) (for_context ms h)
 for_word word.AssertFormula ms h = mapped (λ p. call.AssertFormula p.0 p.1) (formula_in ms) (for_formula ms h)
+for_word word.CheckContext ms h = mapped (λ p. call.CheckContext p.0 p.1) (context_and_turns ms) (for_check ms h)
+for_word word.CheckContextWithAssumptions ms h = mapped (λ p. call.CheckContextWithAssumptions p.0 p.1 p.2) (check_and_terms ms) (for_assumed ms h)
+for_word word.GetUnsatCore ms h = mapped call.GetUnsatCore (one_context ms) (for_context ms h)
 
 -- arguments of a word's form, each of the kind that is taken there, make a call
 pub call_made : (f : Written → Option Meant) (w : CallWord) (args : List Written) (ms : List Meant) → HasForm w args → map f args ≡ map Some ms → ((i : ℕ) (m : Meant) → slice_get ms i ≡ Some m → is_of_kind (kind_at w i) m ≡ true) → IsSome (call_of w ms)

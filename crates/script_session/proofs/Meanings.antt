@@ -9,7 +9,7 @@ use Rattle.call_script.specs.declared.words.ArgumentKind.{ArgumentKind}
 use Rattle.call_script.specs.declared.words.CallWord.{CallWord}
 use Rattle.call_script.specs.Calls.{kind_at}
 use Rattle.call_script.specs.Results.{written, all_written}
-use Rattle.script_session.specs.declared.meant.Handle.{Handle}
+use Rattle.script_session.specs.declared.meant.Gave.{Gave}
 use Rattle.script_session.specs.declared.meant.Meant.{Meant}
 use Rattle.script_session.specs.Asking.{meaning, is_of_kind, IsWithoutResult}
 
@@ -59,11 +59,11 @@ at_written : (args : List Argument) (i : ℕ) (a : Argument) → i < length args
 at_written args i a below is = slice_get-map written args i ∙ ap (option_map written) (slice_get_read args (length args) i a refl below is)
 
 -- one more argument stands for something
-pub more_meanings : (given : List (Option Handle)) (args : List Argument) (i : ℕ) (ms : List Meant) (a : Argument) (o : Option Meant) (m : Meant) → map (meaning given) (take i (all_written args)) ≡ map Some ms → i < length args → a ≡ get_or args i a → o ≡ meaning given (written a) → o ≡ Some m → map (meaning given) (take (i + 1) (all_written args)) ≡ map Some (ms ++ m ∷ [])
+pub more_meanings : (given : List Gave) (args : List Argument) (i : ℕ) (ms : List Meant) (a : Argument) (o : Option Meant) (m : Meant) → map (meaning given) (take i (all_written args)) ≡ map Some ms → i < length args → a ≡ get_or args i a → o ≡ meaning given (written a) → o ≡ Some m → map (meaning given) (take (i + 1) (all_written args)) ≡ map Some (ms ++ m ∷ [])
 more_meanings given args i ms a o m before below is e f = first_more (meaning given) (all_written args) i ms (written a) m before (at_written args i a below is) (sym e ∙ f)
 
 -- the first argument without a result
-pub without_result : (given : List (Option Handle)) (args : List Argument) (i : ℕ) (ms : List Meant) (a : Argument) (o : Option Meant) → map (meaning given) (take i (all_written args)) ≡ map Some ms → i < length args → a ≡ get_or args i a → o ≡ meaning given (written a) → o ≡ None → IsWithoutResult given (all_written args) (i + 1)
+pub without_result : (given : List Gave) (args : List Argument) (i : ℕ) (ms : List Meant) (a : Argument) (o : Option Meant) → map (meaning given) (take i (all_written args)) ≡ map Some ms → i < length args → a ≡ get_or args i a → o ≡ meaning given (written a) → o ≡ None → IsWithoutResult given (all_written args) (i + 1)
 without_result given args i ms a o before below is e f = record {
   index = i;
   counted = refl;

@@ -16,7 +16,7 @@ use Rattle.yices_api.specs.declared.replies.Reply.{Reply}
 use Rattle.yices_api.specs.declared.replies.Reply.TheVariants as reply
 use Rattle.yices_api.specs.Printing.{IsPrintable, IsRefusalLive}
 use Rattle.yices_api.specs.State.{State}
-use Rattle.script_session.specs.declared.meant.Handle.{Handle}
+use Rattle.script_session.specs.declared.meant.Gave.{Gave}
 use Rattle.script_session.specs.declared.meant.Meant.{Meant}
 use Rattle.script_session.specs.CallTable.{call_of}
 use Rattle.script_session.specs.Asking.{meaning, AllMean, is_of_kind, IsWithoutResult, IsFirstOfWrongKind, IsOfWrongKind, IsRefusedAsWritten, AsksFor}
@@ -62,7 +62,7 @@ is_some_not : {A : Type 0} (o : Option A) → o ≡ None → IsSome o → ⊥
 is_some_not None e h = cc h
 is_some_not (Some x) e h = cc e
 
-module _ (given : List (Option Handle)) (w : CallWord) (args : List Written) where
+module _ (given : List Gave) (w : CallWord) (args : List Written) where
   one_without : (p q : ℕ) → IsWithoutResult given args p → IsWithoutResult given args q → p ≡ q
   one_without p q a b = a.counted ∙ ap (λ n. n + 1) (least a.index b.index (λ h. is_some_not _ a.none (b.earlier a.index a.argument h a.there)) (λ h. is_some_not _ b.none (a.earlier b.index b.argument h b.there))) ∙ sym b.counted
 
@@ -119,6 +119,9 @@ module _ (w : World) (one : (t : Term) (x y : List ℕ) → Writes w t x → Wri
   reply_text (reply.Flag true) x y a b = a ∙ sym b
   reply_text (reply.Flag false) x y a b = a ∙ sym b
   reply_text (reply.Status status.Idle) x y a b = a ∙ sym b
+  reply_text (reply.Status status.Sat) x y a b = a ∙ sym b
+  reply_text (reply.Status status.Unsat) x y a b = a ∙ sym b
+  reply_text (reply.Status status.Unknown) x y a b = a ∙ sym b
   reply_text reply.NoMemory x y a b = absurd a
   reply_text r x y a b = a ∙ sym b
 
@@ -133,5 +136,8 @@ module _ (s : State) (has : (t : Term) → IsSome (node_at s.table t) → (text 
   reply_has (reply.Flag true) live some = (_, refl)
   reply_has (reply.Flag false) live some = (_, refl)
   reply_has (reply.Status status.Idle) live some = (_, refl)
+  reply_has (reply.Status status.Sat) live some = (_, refl)
+  reply_has (reply.Status status.Unsat) live some = (_, refl)
+  reply_has (reply.Status status.Unknown) live some = (_, refl)
   reply_has reply.NoMemory live some = absurd (some refl)
   reply_has r live some = (_, refl)

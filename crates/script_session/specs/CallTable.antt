@@ -7,6 +7,7 @@ use Rattle.term_table.specs.declared.table.Marked.{Marked}
 use Rattle.term_table.specs.declared.table.Marked.TheVariants as marked
 use Rattle.call_script.specs.declared.words.CallWord.{CallWord}
 use Rattle.call_script.specs.declared.words.CallWord.TheVariants as word
+use Rattle.clause_search.specs.declared.Turns.{Turns}
 use Rattle.yices_api.specs.declared.handles.ContextId.{ContextId}
 use Rattle.yices_api.specs.declared.calls.Call.{Call}
 use Rattle.yices_api.specs.declared.calls.Call.TheVariants as call
@@ -64,6 +65,15 @@ all_terms [] = Some []
 all_terms (meant.Handle (handle.Term t) ∷ ms) = option_map (λ ts. t ∷ ts) (all_terms ms)
 all_terms (_ ∷ ms) = None
 
+-- a context and a limit of turns, the only two arguments; and terms behind them
+abbrev pub context_and_turns : List Meant → Option (ContextId × Turns)
+context_and_turns (meant.Handle (handle.Context c) ∷ meant.Turns k ∷ []) = Some (c, k)
+context_and_turns _ = None
+
+abbrev pub check_and_terms : List Meant → Option (ContextId × Turns × List Term)
+check_and_terms (meant.Handle (handle.Context c) ∷ meant.Turns k ∷ ms) = option_map (λ ts. (c, k, ts)) (all_terms ms)
+check_and_terms _ = None
+
 -- all arguments, types and terms
 abbrev pub all_marked : List Meant → Option (List Marked)
 all_marked [] = Some []
@@ -117,3 +127,6 @@ call_of word.Push ms = option_map call.Push (one_context ms)
 call_of word.Pop ms = option_map call.Pop (one_context ms)
 call_of word.ContextStatus ms = option_map call.ContextStatus (one_context ms)
 call_of word.AssertFormula ms = option_map (λ p. call.AssertFormula p.0 p.1) (formula_in ms)
+call_of word.CheckContext ms = option_map (λ p. call.CheckContext p.0 p.1) (context_and_turns ms)
+call_of word.CheckContextWithAssumptions ms = option_map (λ p. call.CheckContextWithAssumptions p.0 p.1 p.2) (check_and_terms ms)
+call_of word.GetUnsatCore ms = option_map call.GetUnsatCore (one_context ms)

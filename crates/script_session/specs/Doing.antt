@@ -14,7 +14,8 @@ use Rattle.yices_api.specs.Runs.{Reaches}
 use Rattle.script_session.specs.declared.stop.ScriptStop.{ScriptStop}
 use Rattle.script_session.specs.declared.stop.ScriptStop.TheVariants as stop
 use Rattle.script_session.specs.declared.stop.SyntaxFault.TheVariants as told
-use Rattle.script_session.specs.State.{Script, line_number, handle_of}
+use Rattle.script_session.specs.declared.meant.Gave.TheVariants as gave
+use Rattle.script_session.specs.State.{Script, line_number, given_by}
 use Rattle.script_session.specs.Replies.{Prints, IsLongReply, reply_line}
 use Rattle.script_session.specs.Steps.{IsHere, with_line}
 
@@ -29,7 +30,7 @@ pub record TellsRefusal (old : Script) (why : CallError) (said : List ℕ) (new 
   pub text : List ℕ
   pub prints : Prints old.env.table (reply.Refused why) text
   pub told : said ≡ reply_line (line_number old) text
-  pub after : new ≡ with_line old None
+  pub after : new ≡ with_line old gave.Nothing
 
 -- the call is done, its reply is told, and what it gave is kept
 pub record TellsCall (old : Script) (c : Call) (r : Reply) (said : List ℕ) (new : Script) : Type 0 where
@@ -38,7 +39,7 @@ pub record TellsCall (old : Script) (c : Call) (r : Reply) (said : List ℕ) (ne
   pub prints : Prints new.env.table r text
   pub fits : length text ≤ text_limit
   pub told : said ≡ reply_line (line_number old) text
-  pub gave : new ≡ with_line (record old { env = new.env }) (handle_of r)
+  pub kept : new ≡ with_line (record old { env = new.env }) (given_by r)
 
 -- the call is done, and its reply is past the limit; or memory is refused
 abbrev pub StopsDoing : Script → ℕ → Call → ScriptStop → Type 0

@@ -40,12 +40,15 @@ PrintsRefusal w error.BottomLevel text = text ≡ codes "BottomLevel"
 PrintsRefusal w error.TooMany text = text ≡ codes "TooMany"
 PrintsRefusal w error.TooLong text = text ≡ codes "TooLong"
 PrintsRefusal w error.TableFull text = text ≡ codes "TableFull"
+PrintsRefusal w error.NoCore text = text ≡ codes "NoCore"
+PrintsRefusal w error.NotBuilt text = text ≡ codes "NotBuilt"
 
 -- a reply's text; want of memory has none
 abbrev pub Prints : World → Reply → List ℕ → Type 0
 Prints w (reply.TypeId t) text = text ≡ codes "type " ++ type_text w t
 Prints w (reply.Term t) text = text ≡ codes "term"
 Prints w (reply.Context c) text = text ≡ codes "context"
+Prints w (reply.Terms ts) text = text ≡ codes "list " ++ decimal (length ts)
 Prints w reply.Done text = text ≡ codes "ok"
 Prints w reply.Nothing text = text ≡ codes "none"
 Prints w (reply.Flag true) text = text ≡ codes "true"
@@ -53,6 +56,9 @@ Prints w (reply.Flag false) text = text ≡ codes "false"
 Prints w (reply.Number n) text = text ≡ decimal n
 Prints w (reply.Text t) text = text ≡ t
 Prints w (reply.Status status.Idle) text = text ≡ codes "idle"
+Prints w (reply.Status status.Sat) text = text ≡ codes "sat"
+Prints w (reply.Status status.Unsat) text = text ≡ codes "unsat"
+Prints w (reply.Status status.Unknown) text = text ≡ codes "unknown"
 Prints w (reply.Refused e) text = (values : List ℕ) × PrintsRefusal w e values × (text ≡ codes "refused " ++ values)
 Prints w reply.NoMemory text = ⊥
 

@@ -11,24 +11,25 @@ use Rattle.yices_api.specs.declared.replies.Reply.{Reply}
 use Rattle.yices_api.specs.declared.replies.Reply.TheVariants as reply
 use Rattle.yices_api.specs.State.{State}
 use Rattle.yices_api.specs.Runs.{Reaches}
-use Rattle.script_session.specs.declared.meant.Handle.{Handle}
+use Rattle.script_session.specs.declared.meant.Gave.{Gave}
+use Rattle.script_session.specs.declared.meant.Gave.TheVariants as gave
 use Rattle.script_session.specs.declared.stop.SyntaxFault.{SyntaxFault}
 use Rattle.script_session.specs.declared.stop.SyntaxFault.TheVariants as told
 use Rattle.script_session.specs.declared.stop.ScriptStop.{ScriptStop}
 use Rattle.script_session.specs.declared.stop.ScriptStop.TheVariants as stop
-use Rattle.script_session.specs.State.{Script, line_number, handle_of}
+use Rattle.script_session.specs.State.{Script, line_number, given_by}
 use Rattle.script_session.specs.Asking.{IsRefusedAsWritten, AsksFor}
 use Rattle.script_session.specs.Replies.{Prints, reply_line}
 
 -- one line more, which gave that
-abbrev pub with_line : Script → Option Handle → Script
-with_line s gave = record s { given = s.given ++ gave ∷ [] }
+abbrev pub with_line : Script → Gave → Script
+with_line s g = record s { given = s.given ++ g ∷ [] }
 
 -- a line without a call: nothing is said
 pub record Passes (old : Script) (end : LineEnd) (bytes said : List ℕ) (new : Script) : Type 0 where
   pub says : Says end bytes nothing
   pub silent : said ≡ []
-  pub after : new ≡ with_line old None
+  pub after : new ≡ with_line old gave.Nothing
 
 -- a line that may go on and has no fault so far: nothing is said, and nothing changes
 pub record Waits (old : Script) (end : LineEnd) (bytes said : List ℕ) (new : Script) : Type 0 where
@@ -43,7 +44,7 @@ pub record IsRefused (old : Script) (word : CallWord) (arguments : List Written)
   pub text : List ℕ
   pub prints : Prints old.env.table (reply.Refused why) text
   pub told : said ≡ reply_line (line_number old) text
-  pub after : new ≡ with_line old None
+  pub after : new ≡ with_line old gave.Nothing
 
 -- what is asked is that call; the environment takes its step, and the reply prints that text
 pub record Replies (old : Script) (word : CallWord) (arguments : List Written) (c : Call) (r : Reply) (text : List ℕ) (new : State) : Type 0 where
@@ -57,7 +58,7 @@ pub record IsDone (old : Script) (word : CallWord) (arguments : List Written) (c
   pub replies : Replies old word arguments c r text new.env
   pub fits : length text ≤ text_limit
   pub told : said ≡ reply_line (line_number old) text
-  pub gave : new.given ≡ old.given ++ handle_of r ∷ []
+  pub kept : new.given ≡ old.given ++ given_by r ∷ []
 
 -- a call as written is answered so; with the call of the environment and its reply, where one was done
 abbrev pub AnswersCall : Script → CallWord → List Written → Option (Call × Reply) → List ℕ → Script → Type 0

@@ -9,10 +9,10 @@ ghost use Rattle.script_session.specs.Asking as asking;
 ghost use Rattle.script_session.specs.Asking.{AllMean, AsksFor, IsFirstOfWrongKind, RefusesAsking, RefusesMeaning};
 
 use crate::calls::call_of;
-use crate::meant::{Handle, Meant};
+use crate::meant::{Gave, Handle, Meant};
 use call_script::{Argument, ArgumentKind, CallWord, kind_at};
 use std::alloc::{AllocError, AllocFailed, Global};
-use yices_api::{Call, CallError};
+use yices_api::{Call, CallError, Turns};
 
 /// Why no call is asked.
 #[derive(Clone, Copy, Debug, PartialEq, Eq, Drop)]
@@ -43,7 +43,7 @@ impl<T: Drop> From<AllocFailed<T>> for NotAsked {
 /// least one of a wrong kind.
 pub(crate) fn asked(
     alloc: Global,
-    given: &[Option<Handle>],
+    given: &[Gave],
     word: CallWord,
     arguments: &[Argument],
 ) -> Result<Call, NotAsked>
@@ -62,11 +62,7 @@ pub(crate) fn asked(
 }
 
 /// What the arguments stand for.
-fn meanings(
-    alloc: Global,
-    given: &[Option<Handle>],
-    arguments: &[Argument],
-) -> Result<Vec<Meant>, NotAsked>
+fn meanings(alloc: Global, given: &[Gave], arguments: &[Argument]) -> Result<Vec<Meant>, NotAsked>
     ensures ok { IfOk result (λ ms. AllMean given.now (all_written arguments.now) ms.items) }
     ensures refused { IfErr result (λ e. RefusesMeaning given.now (all_written arguments.now) e) }
 {
@@ -81,27 +77,70 @@ fn meanings(
 }
 
 /// What an argument stands for, where it has a result.
-fn meaning(given: &[Option<Handle>], argument: &Argument) -> Result<Option<Meant>, AllocError>
+fn meaning(given: &[Gave], argument: &Argument) -> Result<Option<Meant>, AllocError>
     ensures { IfOk result (λ m. m ≡ asking.meaning given.now (written argument.now)) }
 {
     match argument {
-        Argument::Reference(line) => Ok(given_by_line(given, *line).map(Meant::Handle)),
-        Argument::Entry(_, _) => Ok(None),
+        Argument::Reference(line) => Ok(handle_of_line(given, *line).map(Meant::Handle)),
+        Argument::Entry(line, entry) => Ok(entry_of_line(given, *line, *entry).map(Meant::Handle)),
         Argument::Flag(flag) => Ok(Some(Meant::Flag(*flag))),
+        Argument::Limit(limit) => Ok(Some(Meant::Turns(turns_of(*limit)))),
         Argument::Name(name) => Ok(Some(Meant::Name(name.clone()?))),
     }
 }
 
-/// What that line gave, counted from 1.
-fn given_by_line(given: &[Option<Handle>], line: u64) -> Option<Handle>
-    ensures { result ≡ asking.given_by_line given.now line }
+/// The handle that a line gave, counted from 1.
+fn handle_of_line(given: &[Gave], line: u64) -> Option<Handle>
+    ensures { result ≡ asking.handle_in (asking.given_by_line given.now line) }
 {
     if line == 0 {
         return None;
     }
     match given.get((line - 1) as usize) {
-        Some(gave) => *gave,
+        Some(gave) => handle_in(gave),
         None => None,
+    }
+}
+
+/// An entry of the list that a line gave; both count from 1.
+fn entry_of_line(given: &[Gave], line: u64, entry: u64) -> Option<Handle>
+    ensures { result ≡ asking.entry_in (asking.given_by_line given.now line) entry }
+{
+    if line == 0 {
+        return None;
+    }
+    let gave = given.get((line - 1) as usize)?;
+    entry_in(gave, entry)
+}
+
+fn handle_in(gave: &Gave) -> Option<Handle>
+    ensures { result ≡ asking.handle_in gave.now }
+{
+    match gave {
+        Gave::Handle(handle) => Some(*handle),
+        Gave::Nothing | Gave::Terms(_) => None,
+    }
+}
+
+fn entry_in(gave: &Gave, entry: u64) -> Option<Handle>
+    ensures { result ≡ asking.entry_in gave.now entry }
+{
+    let Gave::Terms(terms) = gave else {
+        return None;
+    };
+    if entry == 0 {
+        return None;
+    }
+    let term = terms.as_slice().get((entry - 1) as usize)?;
+    Some(Handle::Term(*term))
+}
+
+fn turns_of(limit: Option<u64>) -> Turns
+    ensures { result ≡ asking.turns_of limit }
+{
+    match limit {
+        Some(turns) => Turns::Counted(turns),
+        None => Turns::Whole,
     }
 }
 
@@ -127,6 +166,7 @@ fn is_of_kind(kind: Option<ArgumentKind>, m: &Meant) -> bool
         Some(ArgumentKind::Context) => is_context(m),
         Some(ArgumentKind::TypeOrTerm) => is_type(m) || is_term(m),
         Some(ArgumentKind::Flag) => is_flag(m),
+        Some(ArgumentKind::Turns) => is_limit(m),
         Some(ArgumentKind::Name) => is_name(m),
         None => false,
     }
@@ -154,6 +194,12 @@ fn is_flag(m: &Meant) -> bool
     ensures { result ≡ asking.is_flag m.now }
 {
     matches!(m, Meant::Flag(_))
+}
+
+fn is_limit(m: &Meant) -> bool
+    ensures { result ≡ asking.is_limit m.now }
+{
+    matches!(m, Meant::Turns(_))
 }
 
 fn is_name(m: &Meant) -> bool

@@ -5,7 +5,7 @@ ghost use Rattle.script_session.specs.CallTable as table;
 use crate::meant::{Handle, Meant};
 use call_script::CallWord;
 use std::alloc::{AllocError, Global};
-use yices_api::{Call, ContextId, Marked, MarkedList, Term, Terms, Text, TypeId};
+use yices_api::{Call, ContextId, Marked, MarkedList, Term, Terms, Text, Turns, TypeId};
 
 /// The call of the word, where these are arguments of its form.
 pub(crate) fn call_of(
@@ -58,6 +58,13 @@ pub(crate) fn call_of(
         CallWord::Pop => Ok(one_context(ms).map(Call::Pop)),
         CallWord::ContextStatus => Ok(one_context(ms).map(Call::ContextStatus)),
         CallWord::AssertFormula => Ok(formula_in(ms).map(|(a, b)| Call::AssertFormula(a, b))),
+        CallWord::CheckContext => Ok(context_and_turns(ms).map(|(a, b)| Call::CheckContext(a, b))),
+        CallWord::CheckContextWithAssumptions => Ok(check_and_terms(alloc, ms)?.map(|(
+            context,
+            turns,
+            terms,
+        )| Call::CheckContextWithAssumptions(context, turns, terms))),
+        CallWord::GetUnsatCore => Ok(one_context(ms).map(Call::GetUnsatCore)),
     }
 }
 
@@ -172,6 +179,31 @@ fn all_terms(alloc: Global, ms: &[Meant]) -> Result<Option<Terms>, AllocError>
         terms.push(*t)?;
     }
     Ok(Some(terms))
+}
+
+fn context_and_turns(ms: &[Meant]) -> Option<(ContextId, Turns)>
+    ensures { result ≡ table.context_and_turns ms.now }
+{
+    match ms {
+        [Meant::Handle(Handle::Context(c)), Meant::Turns(turns)] => Some((*c, *turns)),
+        _ => None,
+    }
+}
+
+fn check_and_terms(
+    alloc: Global,
+    ms: &[Meant],
+) -> Result<Option<(ContextId, Turns, Terms)>, AllocError>
+    ensures { IfOk result (λ found. found ≡ table.check_and_terms ms.now) }
+{
+    match ms {
+        [
+            Meant::Handle(Handle::Context(c)),
+            Meant::Turns(turns),
+            terms @ ..,
+        ] => Ok(all_terms(alloc, terms)?.map(|terms| (*c, *turns, terms))),
+        _ => Ok(None),
+    }
 }
 
 fn all_marked(alloc: Global, ms: &[Meant]) -> Result<Option<MarkedList>, AllocError>

@@ -13,7 +13,7 @@ ghost use Rattle.yices_api.specs.declared.replies.CallError.{CallError};
 ghost use Rattle.yices_api.specs.declared.replies.Reply.TheVariants.{NoMemory};
 ghost use Rattle.yices_api.specs.Printing.{IsPrintable};
 ghost use Rattle.yices_api.specs.State.{State};
-ghost use Rattle.script_session.specs.declared.meant.Handle.{Handle};
+ghost use Rattle.script_session.specs.declared.meant.Gave.{Gave};
 ghost use Rattle.script_session.specs.Asking.{AsksFor, IsRefusedAsWritten};
 ghost use Rattle.script_session.specs.Replies.{Prints};
 ghost use Rattle.script_session.specs.State.{Script};
@@ -60,10 +60,10 @@ pub fn faults_are_exact()
 /// A call as written asks one thing, and only one: it is refused for what its arguments stand for, or it is a call of the
 /// environment.
 pub fn one_is_asked()
-    ensures some { (given : List (Option Handle)) (word : CallWord) (arguments : List Written) → HasForm word arguments → ((e : CallError) × IsRefusedAsWritten given word arguments e) ⊎ ((c : Call) × AsksFor given word arguments c) }
-    ensures refusals { (given : List (Option Handle)) (word : CallWord) (arguments : List Written) (d e : CallError) → IsRefusedAsWritten given word arguments d → IsRefusedAsWritten given word arguments e → d ≡ e }
-    ensures calls { (given : List (Option Handle)) (word : CallWord) (arguments : List Written) (c d : Call) → AsksFor given word arguments c → AsksFor given word arguments d → c ≡ d }
-    ensures not_both { (given : List (Option Handle)) (word : CallWord) (arguments : List Written) (e : CallError) (c : Call) → IsRefusedAsWritten given word arguments e → AsksFor given word arguments c → ⊥ }
+    ensures some { (given : List Gave) (word : CallWord) (arguments : List Written) → HasForm word arguments → ((e : CallError) × IsRefusedAsWritten given word arguments e) ⊎ ((c : Call) × AsksFor given word arguments c) }
+    ensures refusals { (given : List Gave) (word : CallWord) (arguments : List Written) (d e : CallError) → IsRefusedAsWritten given word arguments d → IsRefusedAsWritten given word arguments e → d ≡ e }
+    ensures calls { (given : List Gave) (word : CallWord) (arguments : List Written) (c d : Call) → AsksFor given word arguments c → AsksFor given word arguments d → c ≡ d }
+    ensures not_both { (given : List Gave) (word : CallWord) (arguments : List Written) (e : CallError) (c : Call) → IsRefusedAsWritten given word arguments e → AsksFor given word arguments c → ⊥ }
 {}
 
 /// A reply has one text, where what it names is live and memory wasn't refused.

@@ -82,6 +82,11 @@ fn spell(alloc: Global, env: &Env, reply: &Reply) -> Result<String, TextError>
         }
         Reply::Term(_) => Ok(String::from_str(alloc, "term")?),
         Reply::Context(_) => Ok(String::from_str(alloc, "context")?),
+        Reply::Terms(terms) => {
+            let mut out = String::from_str(alloc, "list ")?;
+            push_number(&mut out, terms.len())?;
+            Ok(out)
+        }
         Reply::Done => Ok(String::from_str(alloc, "ok")?),
         Reply::Nothing => Ok(String::from_str(alloc, "none")?),
         Reply::Flag(true) => Ok(String::from_str(alloc, "true")?),
@@ -89,6 +94,9 @@ fn spell(alloc: Global, env: &Env, reply: &Reply) -> Result<String, TextError>
         Reply::Number(n) => Ok(String::from_str(alloc, buffer.format(*n))?),
         Reply::Text(text) => Ok(String::from_str(alloc, text.as_str())?),
         Reply::Status(Status::Idle) => Ok(String::from_str(alloc, "idle")?),
+        Reply::Status(Status::Sat) => Ok(String::from_str(alloc, "sat")?),
+        Reply::Status(Status::Unsat) => Ok(String::from_str(alloc, "unsat")?),
+        Reply::Status(Status::Unknown) => Ok(String::from_str(alloc, "unknown")?),
         Reply::Refused(e) => {
             let mut out = String::from_str(alloc, "refused ")?;
             push_refusal(&mut out, alloc, env.table(), e)?;
@@ -133,6 +141,8 @@ fn push_refusal(
         CallError::TooMany => push_word(out, "TooMany"),
         CallError::TooLong => push_word(out, "TooLong"),
         CallError::TableFull => push_word(out, "TableFull"),
+        CallError::NoCore => push_word(out, "NoCore"),
+        CallError::NotBuilt => push_word(out, "NotBuilt"),
     }
 }
 

@@ -6,12 +6,12 @@ ghost use Rattle.yices_api.specs.declared.calls.Call.{Call};
 ghost use Rattle.yices_api.specs.declared.replies.Reply.{Reply};
 ghost use Rattle.script_session.specs.declared.stop.ScriptStop.TheVariants.{NoMemory};
 ghost use Rattle.script_session.specs.Replies.{reply_line};
-ghost use Rattle.script_session.specs.State.{IsStart, handle_of, line_number};
+ghost use Rattle.script_session.specs.State.{IsStart, given_by, line_number};
 ghost use Rattle.script_session.specs.Steps.{Answers, AnswersCall, StaysAfter, Stops, StopsCall, with_line};
 ghost use Rattle.script_session.specs.Doing.{IsOfScript, place_at, StopsDoing, TellsCall, TellsRefusal, told_error};
 
 use crate::asking::{NotAsked, asked};
-use crate::meant::Handle;
+use crate::meant::{Gave, Handle};
 use crate::replies::{TextError, reply_line, reply_text};
 use crate::stop::{ScriptStop, SyntaxFault};
 use call_script::{Call as Written, Line, LineEnd, LineError, read_line};
@@ -25,7 +25,7 @@ use yices_grammar::Place;
 pub struct ScriptSession {
     alloc: Global,
     env: Env,
-    given: Vec<Option<Handle>>,
+    given: Vec<Gave>,
 }
 
 impl Model for ScriptSession {
@@ -70,7 +70,7 @@ impl ScriptSession {
     {
         match read_line(self.alloc, line, end) {
             Ok(Line::Empty) => {
-                self.given.push(None)?;
+                self.given.push(Gave::Nothing)?;
                 Ok(String::new(self.alloc))
             }
             Ok(Line::Unfinished) => Ok(String::new(self.alloc)),
@@ -102,7 +102,7 @@ impl ScriptSession {
         let line = self.line_number();
         let reply = step(&mut self.env, call);
         match reply_text(self.alloc, &self.env, &reply) {
-            Ok(text) => Ok(self.tell(&text, handle_given(&reply))?),
+            Ok(text) => Ok(self.tell(&text, kept_of(reply))?),
             Err(TextError::TooLong) => Err(ScriptStop::TooLong(place(line, column))),
             Err(TextError::NoMemory) => Err(ScriptStop::NoMemory),
         }
@@ -116,14 +116,14 @@ impl ScriptSession {
         ensures same { OnErr result (self.new ≡ self.old) }
     {
         match reply_text(self.alloc, &self.env, &Reply::Refused(why)) {
-            Ok(text) => Ok(self.tell(&text, None)?),
+            Ok(text) => Ok(self.tell(&text, Gave::Nothing)?),
             Err(TextError::TooLong) => unreachable!(),
             Err(TextError::NoMemory) => Err(ScriptStop::NoMemory),
         }
     }
 
     /// The reply's line; one line more, which gave that.
-    fn tell(&mut self, text: &str, gave: Option<Handle>) -> Result<String, AllocError>
+    fn tell(&mut self, text: &str, gave: Gave) -> Result<String, AllocError>
         ensures told { IfOk result (λ line. string_bytes line ≡ reply_line (line_number self.old) text.now) }
         ensures ok { OnOk result (self.new ≡ with_line self.old gave) }
         ensures err { OnErr result (self.new ≡ self.old) }
@@ -141,15 +141,16 @@ impl ScriptSession {
     }
 }
 
-/// What a reply gives to later lines.
-fn handle_given(reply: &Reply) -> Option<Handle>
-    ensures { result ≡ handle_of reply.now }
+/// What of a reply later lines can refer to.
+fn kept_of(reply: Reply) -> Gave
+    ensures { result ≡ given_by reply }
 {
     match reply {
-        Reply::TypeId(t) => Some(Handle::TypeId(*t)),
-        Reply::Term(t) => Some(Handle::Term(*t)),
-        Reply::Context(c) => Some(Handle::Context(*c)),
-        _ => None,
+        Reply::TypeId(t) => Gave::Handle(Handle::TypeId(t)),
+        Reply::Term(t) => Gave::Handle(Handle::Term(t)),
+        Reply::Context(c) => Gave::Handle(Handle::Context(c)),
+        Reply::Terms(terms) => Gave::Terms(terms),
+        _ => Gave::Nothing,
     }
 }
 

@@ -118,8 +118,207 @@ const PRINTED: [Row; 31] = [
     ("xor #2 #3", "#31 refused DeadTerm 2\n"),
 ];
 
+// Three pigeons in two holes: pigeon 1 is in hole 1 by #2, in hole 2 by #3, and so on up to #7.
+const PIGEONS: [Row; 37] = [
+    ("bool_type", "#1 type bool\n"),
+    ("new_uninterpreted_term #1", "#2 term\n"),
+    ("new_uninterpreted_term #1", "#3 term\n"),
+    ("new_uninterpreted_term #1", "#4 term\n"),
+    ("new_uninterpreted_term #1", "#5 term\n"),
+    ("new_uninterpreted_term #1", "#6 term\n"),
+    ("new_uninterpreted_term #1", "#7 term\n"),
+    ("new_context", "#8 context\n"),
+    ("not #2", "#9 term\n"),
+    ("not #3", "#10 term\n"),
+    ("not #4", "#11 term\n"),
+    ("not #5", "#12 term\n"),
+    ("not #6", "#13 term\n"),
+    ("not #7", "#14 term\n"),
+    ("or #2 #3", "#15 term\n"),
+    ("assert_formula #8 #15", "#16 ok\n"),
+    ("or #4 #5", "#17 term\n"),
+    ("assert_formula #8 #17", "#18 ok\n"),
+    ("or #6 #7", "#19 term\n"),
+    ("assert_formula #8 #19", "#20 ok\n"),
+    ("or #9 #11", "#21 term\n"),
+    ("assert_formula #8 #21", "#22 ok\n"),
+    ("or #9 #13", "#23 term\n"),
+    ("assert_formula #8 #23", "#24 ok\n"),
+    ("or #11 #13", "#25 term\n"),
+    ("assert_formula #8 #25", "#26 ok\n"),
+    ("or #10 #12", "#27 term\n"),
+    ("assert_formula #8 #27", "#28 ok\n"),
+    ("or #10 #14", "#29 term\n"),
+    ("assert_formula #8 #29", "#30 ok\n"),
+    ("or #12 #14", "#31 term\n"),
+    ("assert_formula #8 #31", "#32 ok\n"),
+    ("check_context #8 0", "#33 unknown\n"),
+    ("context_status #8", "#34 unknown\n"),
+    ("check_context #8 whole", "#35 unsat\n"),
+    ("context_status #8", "#36 unsat\n"),
+    ("get_unsat_core #8", "#37 refused NoCore\n"),
+];
+
+// A core is a list, whose entries count from 1.
+const CORE: [Row; 29] = [
+    ("bool_type", "#1 type bool\n"),
+    ("new_uninterpreted_term #1", "#2 term\n"),
+    ("new_uninterpreted_term #1", "#3 term\n"),
+    ("new_uninterpreted_term #1", "#4 term\n"),
+    ("set_term_name \"a\" #2", "#5 ok\n"),
+    ("set_term_name \"c\" #4", "#6 ok\n"),
+    ("and #2 #4", "#7 term\n"),
+    ("not #7", "#8 term\n"),
+    ("new_context", "#9 context\n"),
+    ("assert_formula #9 #8", "#10 ok\n"),
+    ("check_context #9 whole", "#11 sat\n"),
+    (
+        "check_context_with_assumptions #9 whole #2 #3 #4 #2",
+        "#12 unsat\n",
+    ),
+    ("context_status #9", "#13 unsat\n"),
+    ("get_unsat_core #9", "#14 list 2\n"),
+    ("pp_term #14.1", "#15 a\n"),
+    ("pp_term #14.2", "#16 c\n"),
+    ("pp_term #14.3", "#17 refused NoResult 1\n"),
+    ("pp_term #14.0", "#18 refused NoResult 1\n"),
+    (
+        "pp_term #14.99999999999999999999",
+        "#19 refused NoResult 1\n",
+    ),
+    ("pp_term #14", "#20 refused NoResult 1\n"),
+    ("pp_term #13.1", "#21 refused NoResult 1\n"),
+    ("pp_term #2.1", "#22 refused NoResult 1\n"),
+    ("push #14.1", "#23 refused WrongKind 1\n"),
+    ("eq #14.1 #2", "#24 term\n"),
+    ("check_context_with_assumptions #9 whole #24", "#25 sat\n"),
+    ("get_unsat_core #9", "#26 refused NoCore\n"),
+    (
+        "check_context_with_assumptions #9 whole #14.2 #14.1",
+        "#27 unsat\n",
+    ),
+    ("get_unsat_core #9", "#28 list 2\n"),
+    ("pp_term #28.1", "#29 c\n"),
+];
+
+// A core keeps its terms, and the list that it gave does not.
+const CORE_KEPT: [Row; 22] = [
+    ("bool_type", "#1 type bool\n"),
+    ("new_uninterpreted_term #1", "#2 term\n"),
+    ("new_uninterpreted_term #1", "#3 term\n"),
+    ("not #2", "#4 term\n"),
+    ("new_context", "#5 context\n"),
+    (
+        "check_context_with_assumptions #5 whole #2 #3 #4",
+        "#6 unsat\n",
+    ),
+    ("get_unsat_core #5", "#7 list 2\n"),
+    ("garbage_collect false", "#8 ok\n"),
+    ("type_of_term #3", "#9 refused DeadTerm 1\n"),
+    ("type_of_term #7.1", "#10 type bool\n"),
+    ("type_of_term #7.2", "#11 type bool\n"),
+    ("get_unsat_core #5", "#12 list 2\n"),
+    ("reset_context #5", "#13 ok\n"),
+    ("get_unsat_core #5", "#14 refused NoCore\n"),
+    ("garbage_collect false", "#15 ok\n"),
+    ("type_of_term #7.1", "#16 refused DeadTerm 1\n"),
+    ("false", "#17 term\n"),
+    ("assert_formula #5 #17", "#18 ok\n"),
+    ("new_uninterpreted_term #1", "#19 term\n"),
+    ("check_context_with_assumptions #5 0 #19", "#20 unsat\n"),
+    ("get_unsat_core #5", "#21 list 0\n"),
+    ("type_of_term #21.1", "#22 refused NoResult 1\n"),
+];
+
+// What each change of a context leaves of its status.
+const STATUSES: [Row; 28] = [
+    ("bool_type", "#1 type bool\n"),
+    ("new_uninterpreted_term #1", "#2 term\n"),
+    ("not #2", "#3 term\n"),
+    ("new_context", "#4 context\n"),
+    ("context_status #4", "#5 idle\n"),
+    ("check_context #4 whole", "#6 sat\n"),
+    ("context_status #4", "#7 sat\n"),
+    ("assert_formula #4 #2", "#8 ok\n"),
+    ("context_status #4", "#9 idle\n"),
+    ("check_context #4 0", "#10 sat\n"),
+    ("push #4", "#11 ok\n"),
+    ("context_status #4", "#12 idle\n"),
+    ("assert_formula #4 #3", "#13 ok\n"),
+    ("check_context #4 whole", "#14 unsat\n"),
+    ("context_status #4", "#15 unsat\n"),
+    ("pop #4", "#16 ok\n"),
+    ("context_status #4", "#17 idle\n"),
+    ("check_context #4 18446744073709551615", "#18 sat\n"),
+    ("pop #4", "#19 refused BottomLevel\n"),
+    ("context_status #4", "#20 sat\n"),
+    ("check_context_with_assumptions #4 whole #3", "#21 unsat\n"),
+    ("context_status #4", "#22 unsat\n"),
+    ("garbage_collect false", "#23 ok\n"),
+    ("context_status #4", "#24 unsat\n"),
+    ("check_context_with_assumptions #4 whole", "#25 sat\n"),
+    ("reset_context #4", "#26 ok\n"),
+    ("context_status #4", "#27 idle\n"),
+    ("get_unsat_core #4", "#28 refused NoCore\n"),
+];
+
+// Checks that are refused.
+const CHECKS: [Row; 27] = [
+    ("bool_type", "#1 type bool\n"),
+    ("new_uninterpreted_term #1", "#2 term\n"),
+    ("new_uninterpreted_term #1", "#3 term\n"),
+    ("new_variable #1", "#4 term\n"),
+    ("new_context", "#5 context\n"),
+    ("get_unsat_core #5", "#6 refused NoCore\n"),
+    ("check_context #5 whole", "#7 sat\n"),
+    ("get_unsat_core #5", "#8 refused NoCore\n"),
+    (
+        "check_context_with_assumptions #5 whole #4",
+        "#9 refused HasVariable v!0\n",
+    ),
+    (
+        "check_context_with_assumptions #5 0 #2 #4",
+        "#10 refused HasVariable v!0\n",
+    ),
+    ("context_status #5", "#11 sat\n"),
+    ("garbage_collect false #2", "#12 ok\n"),
+    (
+        "check_context_with_assumptions #5 whole #3",
+        "#13 refused DeadTerm 3\n",
+    ),
+    (
+        "check_context_with_assumptions #5 0 #2 #2 #3 #4",
+        "#14 refused DeadTerm 5\n",
+    ),
+    ("context_status #5", "#15 sat\n"),
+    ("check_context_with_assumptions #5 whole #2", "#16 sat\n"),
+    (
+        "check_context_with_assumptions #3 whole #2",
+        "#17 refused WrongKind 1\n",
+    ),
+    (
+        "check_context_with_assumptions #5 whole #5",
+        "#18 refused WrongKind 3\n",
+    ),
+    (
+        "check_context_with_assumptions #5 whole #2 #99",
+        "#19 refused NoResult 4\n",
+    ),
+    ("check_context #2 whole", "#20 refused WrongKind 1\n"),
+    ("check_context #99 whole", "#21 refused NoResult 1\n"),
+    ("get_unsat_core #2", "#22 refused WrongKind 1\n"),
+    ("free_context #5", "#23 ok\n"),
+    ("check_context #5 0", "#24 refused DeadContext 1\n"),
+    (
+        "check_context_with_assumptions #5 0 #3",
+        "#25 refused DeadContext 1\n",
+    ),
+    ("get_unsat_core #5", "#26 refused DeadContext 1\n"),
+    ("context_status #5", "#27 refused DeadContext 1\n"),
+];
+
 // A line behind a first one, how it ends, and why the script stops there.
-const STOPS: [(&str, LineEnd, ScriptStop); 6] = [
+const STOPS: [(&str, LineEnd, ScriptStop); 7] = [
     (
         "bool_type #1",
         LineEnd::Newline,
@@ -147,7 +346,18 @@ const STOPS: [(&str, LineEnd, ScriptStop); 6] = [
         ScriptStop::Syntax(SyntaxFault::BadByte, Place { line: 2, column: 5 }),
     ),
     (
-        "  check_context #1 whole",
+        "check_context #1 18446744073709551616",
+        LineEnd::Newline,
+        ScriptStop::Syntax(
+            SyntaxFault::Unexpected,
+            Place {
+                line: 2,
+                column: 18,
+            },
+        ),
+    ),
+    (
+        "  get_model #1",
         LineEnd::Newline,
         ScriptStop::NotBuilt(Place { line: 2, column: 3 }),
     ),
@@ -202,6 +412,31 @@ fn references_are_looked_up_in_order(rt: HostRuntime) -> Result<(), Fail> {
 #[test]
 fn replies_are_printed(rt: HostRuntime) -> Result<(), Fail> {
     check_script(&rt, rt.alloc(), &PRINTED)?;
+    Ok(())
+}
+
+#[test]
+fn pigeons_are_told(rt: HostRuntime) -> Result<(), Fail> {
+    check_script(&rt, rt.alloc(), &PIGEONS)?;
+    Ok(())
+}
+
+#[test]
+fn entries_of_a_core_are_terms(rt: HostRuntime) -> Result<(), Fail> {
+    check_script(&rt, rt.alloc(), &CORE)?;
+    check_script(&rt, rt.alloc(), &CORE_KEPT)?;
+    Ok(())
+}
+
+#[test]
+fn changes_make_a_context_idle(rt: HostRuntime) -> Result<(), Fail> {
+    check_script(&rt, rt.alloc(), &STATUSES)?;
+    Ok(())
+}
+
+#[test]
+fn checks_are_refused(rt: HostRuntime) -> Result<(), Fail> {
+    check_script(&rt, rt.alloc(), &CHECKS)?;
     Ok(())
 }
 

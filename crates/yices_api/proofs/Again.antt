@@ -21,7 +21,7 @@ use Rattle.yices_api.specs.Calls.{made_by}
 use Rattle.yices_api.specs.Steps.{Does, DoesBy, Api}
 use Rattle.yices_api.specs.Runs.{IsWorld, Lasts, Reaches, Runs}
 use Rattle.yices_api.proofs.Lasting.{NodesLast, step_moves, runs_move, nodes_on, lasts_on}
-use Rattle.yices_api.proofs.Calling.{sort_live}
+use Rattle.yices_api.proofs.Staying.{sort_live}
 use Rattle.yices_api.proofs.Tables.{node_live, most_extend}
 
 -- a live term was not freed

@@ -1,6 +1,6 @@
 -- What the calls below say, as steps of the interface.
-use Rattle.std.proofs.Common.{◌≡◌, ◌∙◌, ◌+◌, ◌++◌, ◌<◌, ◌≤◌, ◌==◌, ℕ, List, [], ◌∷◌, length, Option, Some, None, map, refl, sym, ap, subst, inl, inr, ◌⊎◌}
-use Rattle.std.specs.Prelude.{IsSome, IsNone}
+use Rattle.std.proofs.Common.{◌≡◌, ◌∙◌, ◌+◌, ◌++◌, ◌<◌, ◌≤◌, ◌==◌, ℕ, List, [], ◌∷◌, length, Option, Some, None, map, refl, sym, ap, subst, inl, inr, ◌⊎◌, arith}
+use Rattle.std.specs.Prelude.{IsSome, IsNone, is_some}
 use Rattle.std.specs.Option.{option_map}
 use Rattle.std.proofs.lemmas.Bool.{eqb-true}
 use Rattle.std.proofs.lemmas.Option.{cond_some}
@@ -23,7 +23,12 @@ use Rattle.term_sketches.specs.Sketches.{operator_of}
 use Rattle.term_build.specs.Building.{AddsAtMost, IsBuilt, MayAdd, RefusesCall}
 use Rattle.term_build.specs.declared.errors.BuildError.{BuildError}
 use Rattle.term_build.specs.declared.errors.BuildError.TheVariants as build_error
-use Rattle.context_stack.specs.Steps.{Asserts, Pops, IsFormula, RefusesFormula, RefusesPush}
+use Rattle.clause_search.specs.declared.Turns.{Turns}
+use Rattle.term_checks.specs.Formulas.{IsFormula}
+use Rattle.context_stack.specs.States.{ContextState, IsUnchecked}
+use Rattle.context_stack.specs.Steps.{Asserts, Pops, RefusesFormula, RefusesPush}
+use Rattle.context_stack.specs.Checks.{Checks, RefusesAssumptions}
+use Rattle.context_stack.specs.declared.checks.Checked.{Checked}
 use Rattle.context_stack.specs.declared.errors.ContextError.{ContextError}
 use Rattle.context_stack.specs.declared.errors.ContextError.TheVariants as context_error
 use Rattle.yices_api.specs.declared.handles.ContextId.{ContextId}
@@ -32,12 +37,14 @@ use Rattle.yices_api.specs.declared.replies.CallError.{CallError}
 use Rattle.yices_api.specs.declared.replies.CallError.TheVariants as error
 use Rattle.yices_api.specs.declared.replies.Reply.{Reply}
 use Rattle.yices_api.specs.declared.replies.Reply.TheVariants as reply
-use Rattle.yices_api.specs.State.{State, Levels, Contexts, ContextsStay, levels_in, levels_under, Turns, Loses}
+use Rattle.yices_api.specs.State.{State, Contexts, ContextsStay, HasContext, context_in, context_under, IsEnvironment, Puts, Loses}
 use Rattle.yices_api.specs.Calls.{Handle, of_term, of_type, of_context, IsLive, AllLive, placed}
-use Rattle.yices_api.specs.Told.{told_build, told_table, told_context}
-use Rattle.yices_api.specs.Steps.{Tells, TellsIfRoom, Grows, RefusesBuild, Builds, Makes, Counts, Becomes, Prints, TableStays, Alters, Finds, Opens, Closes, Resets, Pushes, Drops, AssertsIn, RefusesDead, StepsBy}
-use Rattle.yices_api.proofs.Stamps.{state, others_stay, under_own, under_other}
-use Rattle.yices_api.proofs.Dead.{none_live, live_one, live_two, refuses_head, refuses_second, terms_live}
+use Rattle.yices_api.specs.Told.{told_build, told_table, told_check, told_context}
+use Rattle.yices_api.specs.Steps.{Tells, TellsIfRoom, Grows, RefusesBuild, Builds, Makes, Counts, Becomes, Prints, TableStays, Alters, Finds, Relevels, AddsContext, Opens, Closes, Resets, Pushes, Drops, AssertsIn, TellsStatus, ChecksIn, ChecksAssuming, TellsCore, RefusesDead, StepsBy}
+use Rattle.yices_api.proofs.Stamps.{state, others_stay, put_environment, under_own, under_other}
+use Rattle.yices_api.proofs.Holding.{empty_formulas, no_core}
+use Rattle.yices_api.proofs.Staying.{node_of, sort_live}
+use Rattle.yices_api.proofs.Dead.{none_live, live_one, live_two, live_assumed, refuses_assumed, refuses_head, refuses_second, terms_live}
 
 -- a step is one for equal states and replies
 pub arrive : (P : State → Reply → State → Type 0) (old new : State) (r : Reply) (before after : State) (told : Reply) → P old r new → old ≡ before → r ≡ told → new ≡ after → P before told after
@@ -84,20 +91,12 @@ module _ (w x : World) (cs : Contexts) (m : ℕ) where
   pub named : (h : Handle) (z : World) → IsLive (state w cs m) h → x ≡ z → StepsBy (placed 2 (h ∷ [])) (Becomes z) (state w cs m) reply.Done (state x cs m)
   named h z live e = inr (live_one (state w cs m) 2 h live, ap (λ y. state y cs m) e)
 
--- a term with a sort is live
-node_of : (o : Option Node) (of : TypeId) → option_map (λ (n : Node). n.of) o ≡ Some of → IsSome o
-node_of None of h = absurd (cc h)
-node_of (Some n) of h = refl
-
 no_node_of : (o : Option Node) → None ≡ option_map (λ (n : Node). n.of) o → IsNone o
 no_node_of None h = refl
 no_node_of (Some n) h = absurd (cc h)
 
 pub no_node : (w : World) (t : Term) → None ≡ type_at w t → IsNone (node_at w t)
 no_node w t h = no_node_of (node_at w t) h
-
-pub sort_live : (w : World) (t : Term) (k : Sort) → HasSort w t k → IsSome (node_at w t)
-sort_live w t k h = node_of (node_at w t) h.0 h.1
 
 -- nothing changes
 module _ (s : State) where
@@ -127,6 +126,23 @@ module _ (s : State) where
 
     pub unprinted : StepsBy (placed 1 (of_term t ∷ [])) (Prints t) s reply.NoMemory s
     unprinted = inr (live_one s 1 (of_term t) live, refl)
+
+  -- what is known of a context, and its core
+  module _ (c : ContextId) (x : ContextState) (has : HasContext s.contexts c x) where
+    live_here : AllLive s (placed 1 (of_context c ∷ []))
+    live_here = live_one s 1 (of_context c) (ap is_some has)
+
+    pub known : StepsBy (placed 1 (of_context c ∷ [])) (TellsStatus c) s (reply.Status x.status) s
+    known = inr (live_here, (record { context = x; has = has; so = refl }, refl))
+
+    pub blamed : (ts : List Term) → x.core ≡ Some ts → StepsBy (placed 1 (of_context c ∷ [])) (TellsCore c) s (reply.Terms ts) s
+    blamed ts e = inr (live_here, (record { context = x; has = has; so = e }, refl))
+
+    pub unblamed : x.core ≡ None → StepsBy (placed 1 (of_context c ∷ [])) (TellsCore c) s (reply.Refused error.NoCore) s
+    unblamed e = inr (live_here, (refl, record { context = x; has = has; so = e }, refl))
+
+    pub not_told : (ts : List Term) → x.core ≡ Some ts → StepsBy (placed 1 (of_context c ∷ [])) (TellsCore c) s reply.NoMemory s
+    not_told ts e = inr (live_here, (record { context = x; has = has; so = ap is_some e }, refl))
 
   pub unmade : (makes : World → World → Term → Type 0) (of : TypeId) (e : TableError) → RefusesAtom s.table of e → StepsBy (placed 1 (of_type of ∷ [])) (Makes makes) s (told_table 1 e) s
   unmade makes of (table_error.DeadType n) h = inl (refuses_head s 1 (of_type of) [] h.1)
@@ -173,28 +189,44 @@ module _ (w : World) (cs ds : Contexts) (m : ℕ) where
   pub table_stays : TableStays (state w cs m) (state w ds m)
   table_stays = record { table = refl; made = refl }
 
-  module _ (c : ContextId) (live : IsSome (levels_in cs c)) where
-    pub reset : Alters (λ ls ms. ms ≡ [] ∷ []) c cs ds → StepsBy (placed 1 (of_context c ∷ [])) (Resets c) (state w cs m) reply.Done (state w ds m)
+  module _ (c : ContextId) (live : IsSome (context_in cs c)) where
+    pub reset : Alters (Relevels (λ ls ms. ms ≡ [] ∷ [])) c cs ds → StepsBy (placed 1 (of_context c ∷ [])) (Resets c) (state w cs m) reply.Done (state w ds m)
     reset alters = inr (live_one (state w cs m) 1 (of_context c) live, (refl, alters, table_stays))
 
-    pub pushed : Alters (λ ls ms. (length ls < 65537) × (ms ≡ ls ++ [] ∷ [])) c cs ds → StepsBy (placed 1 (of_context c ∷ [])) (Pushes c) (state w cs m) reply.Done (state w ds m)
+    pub pushed : Alters (Relevels (λ ls ms. (length ls < 65537) × (ms ≡ ls ++ [] ∷ []))) c cs ds → StepsBy (placed 1 (of_context c ∷ [])) (Pushes c) (state w cs m) reply.Done (state w ds m)
     pushed alters = inr (live_one (state w cs m) 1 (of_context c) live, (alters, table_stays))
 
-    pub unpushed : (e : ContextError) → Finds (λ ls. RefusesPush ls e) c cs → ds ≡ cs → StepsBy (placed 1 (of_context c ∷ [])) (Pushes c) (state w cs m) (told_context 1 e) (state w ds m)
-    unpushed context_error.TooDeep found e = inr (live_one (state w cs m) 1 (of_context c) live, (refl, record { levels = found.levels; has = found.has; so = found.so }, ap (λ z. state w z m) e))
+    pub unpushed : (e : ContextError) → Finds (λ x. RefusesPush x.levels e) c cs → ds ≡ cs → StepsBy (placed 1 (of_context c ∷ [])) (Pushes c) (state w cs m) (told_context 1 e) (state w ds m)
+    unpushed context_error.TooDeep found e = inr (live_one (state w cs m) 1 (of_context c) live, (refl, record { context = found.context; has = found.has; so = found.so }, ap (λ z. state w z m) e))
     unpushed context_error.NoMemory found e = inr (live_one (state w cs m) 1 (of_context c) live, ap (λ z. state w z m) e)
     unpushed _ found e = absurd found.so
 
-    pub popped : Alters Pops c cs ds → StepsBy (placed 1 (of_context c ∷ [])) (Drops c) (state w cs m) reply.Done (state w ds m)
+    pub popped : Alters (Relevels Pops) c cs ds → StepsBy (placed 1 (of_context c ∷ [])) (Drops c) (state w cs m) reply.Done (state w ds m)
     popped alters = inr (live_one (state w cs m) 1 (of_context c) live, (alters, table_stays))
 
-    pub unpopped : (e : ContextError) → e ≡ context_error.BottomLevel → Finds (λ ls. length ls ≡ 1) c cs → ds ≡ cs → StepsBy (placed 1 (of_context c ∷ [])) (Drops c) (state w cs m) (told_context 1 e) (state w ds m)
+    pub unpopped : (e : ContextError) → e ≡ context_error.BottomLevel → Finds (λ x. length x.levels ≡ 1) c cs → ds ≡ cs → StepsBy (placed 1 (of_context c ∷ [])) (Drops c) (state w cs m) (told_context 1 e) (state w ds m)
     unpopped e is found same =
         subst (λ z. StepsBy (placed 1 (of_context c ∷ [])) (Drops c) (state w cs m) (told_context 1 z) (state w ds m)) (sym is)
         (inr (live_one (state w cs m) 1 (of_context c) live, (refl, found, ap (λ z. state w z m) same)))
 
-    pub asserted : (t : Term) → IsSome (node_at w t) → IsFormula w t → Alters (λ ls ms. Asserts ls ms t) c cs ds → StepsBy (placed 1 (of_context c ∷ of_term t ∷ [])) (AssertsIn c t) (state w cs m) reply.Done (state w ds m)
+    pub asserted : (t : Term) → IsSome (node_at w t) → IsFormula w t → Alters (Relevels (λ ls ms. Asserts ls ms t)) c cs ds → StepsBy (placed 1 (of_context c ∷ of_term t ∷ [])) (AssertsIn c t) (state w cs m) reply.Done (state w ds m)
     asserted t lives formula alters = inr (live_two (state w cs m) 1 (of_context c) (of_term t) live lives, (formula, alters, table_stays))
+
+    pub checked_in : (turns : Turns) (found : Checked) → Alters (Checks w None turns found) c cs ds → StepsBy (placed 1 (of_context c ∷ [])) (ChecksIn c None turns) (state w cs m) (told_check found) (state w ds m)
+    checked_in turns found alters = inr (live_one (state w cs m) 1 (of_context c) live, record { found = found; told = refl; alters = alters; table = table_stays })
+
+    -- with assumptions, each of which is live
+    module _ (turns : Turns) (ts : List Term) (lives : AreLive w ts) where
+      pub checked_assuming : (found : Checked) → Alters (Checks w (Some ts) turns found) c cs ds → StepsBy ((1, of_context c) ∷ placed 3 (map of_term ts)) (ChecksAssuming c ts turns) (state w cs m) (told_check found) (state w ds m)
+      checked_assuming found alters = inr (live_assumed (state w cs m) c live ts lives, inr (record { found = found; told = refl; alters = alters; table = table_stays }))
+
+      pub unchecked : (e : ContextError) → RefusesAssumptions w ts e → ds ≡ cs → StepsBy ((1, of_context c) ∷ placed 3 (map of_term ts)) (ChecksAssuming c ts turns) (state w cs m) (told_context 1 e) (state w ds m)
+      unchecked (context_error.DeadTerm place) h same = absurd (cc (sym (lives h.others h.term h.there) ∙ ap is_some h.dead))
+      unchecked (context_error.NotBool place) h same =
+          inr (live_assumed (state w cs m) c live ts lives, inl (record { why = error.NotBool place; refuses = h.1; told = refl; same = ap (λ z. state w z m) same }))
+      unchecked (context_error.HasVariable v) h same =
+          inr (live_assumed (state w cs m) c live ts lives, inl (record { why = error.HasVariable v; refuses = h; told = refl; same = ap (λ z. state w z m) same }))
+      unchecked _ h same = absurd h
 
     pub closed : Loses cs ds c → StepsBy (placed 1 (of_context c ∷ [])) (Closes c) (state w cs m) reply.Done (state w ds m)
     closed loses = inr (live_one (state w cs m) 1 (of_context c) live, (refl, loses, table_stays))
@@ -215,40 +247,47 @@ module _ (w : World) (old new : Slab Held) (m key : ℕ) (h : Held) (vacant : ge
   abbrev pub handle : ContextId
   handle = record { key = key; stamp = m }
 
-  pub put : Turns old.slots new.slots handle h.context
+  pub put : Puts old.slots new.slots handle h.context
   put = record {
-    here = ap (levels_under m) updates.changed ∙ under_own m h stamp;
+    here = ap (context_under m) updates.changed ∙ under_own m h stamp;
     others = others_stay old.slots new.slots handle updates.others
-        (λ n d. ap (levels_under n) vacant)
-        (λ n d. ap (levels_under n) updates.changed ∙ under_other n h (λ e. d (e ∙ stamp)));
+        (λ n d. ap (context_under n) vacant)
+        (λ n d. ap (context_under n) updates.changed ∙ under_other n h (λ e. d (e ∙ stamp)));
   }
 
-  pub opened : h.context ≡ [] ∷ [] → m < 4294967296 → StepsBy [] Opens (state w old.slots m) (reply.Context (record { key = key; stamp = m })) (state w new.slots (m + 1))
-  opened e below = inr (
+  pub opened : h.context.levels ≡ [] ∷ [] → IsUnchecked h.context → m < 4294967296 → StepsBy [] Opens (state w old.slots m) (reply.Context (record { key = key; stamp = m })) (state w new.slots (m + 1))
+  opened e unchecked below = inr (
     none_live (state w old.slots m),
     record {
       below = below;
       stamp = refl;
-      turns = subst (λ z. Turns old.slots new.slots handle z) e put;
+      context = h.context;
+      levels = e;
+      unchecked = unchecked;
+      puts = put;
       table = refl;
       made = refl;
     },
   )
 
+  pub opened_environment : IsEnvironment (state w old.slots m) → h.context.levels ≡ [] ∷ [] → IsUnchecked h.context → m < 4294967296 → IsEnvironment (state w new.slots (m + 1))
+  opened_environment env e unchecked below =
+      put_environment w old.slots new.slots m (m + 1) env handle h.context put (no_core w h.context unchecked (empty_formulas w h.context.levels e)) (omega arith) (omega arith) (omega (arith, below))
+
 -- what a key held is taken away
-module _ (old new : Slab Held) (c : ContextId) (live : IsSome (levels_in old.slots c)) (updates : Updates old new c.key None) where
-  stamps : (o : Option Held) → get old c.key ≡ o → IsSome (levels_under c.stamp o) → (n : ℕ) → (n ≡ c.stamp → ⊥) → levels_under n o ≡ None
+module _ (old new : Slab Held) (c : ContextId) (live : IsSome (context_in old.slots c)) (updates : Updates old new c.key None) where
+  stamps : (o : Option Held) → get old c.key ≡ o → IsSome (context_under c.stamp o) → (n : ℕ) → (n ≡ c.stamp → ⊥) → context_under n o ≡ None
   stamps None e k n d = refl
-  stamps (Some h) e k n d = under_other n h (λ q. d (q ∙ own (levels_under c.stamp (Some h)) refl k))
+  stamps (Some h) e k n d = under_other n h (λ q. d (q ∙ own (context_under c.stamp (Some h)) refl k))
     where
-      own : (l : Option Levels) → levels_under c.stamp (Some h) ≡ l → IsSome l → h.stamp ≡ c.stamp
+      own : (l : Option ContextState) → context_under c.stamp (Some h) ≡ l → IsSome l → h.stamp ≡ c.stamp
       own None f g = absurd (cc g)
       own (Some l) f g = eqb-true h.stamp c.stamp (cond_some (h.stamp == c.stamp) h.context l f).0
 
   pub lost : Loses old.slots new.slots c
   lost = record {
-    gone = ap (levels_under c.stamp) updates.changed;
+    gone = ap (context_under c.stamp) updates.changed;
     others = others_stay old.slots new.slots c updates.others
         (λ n d. stamps (get old c.key) refl live n d)
-        (λ n d. ap (levels_under n) updates.changed);
+        (λ n d. ap (context_under n) updates.changed);
   }

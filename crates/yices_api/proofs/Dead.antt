@@ -12,8 +12,9 @@ use Rattle.term_table.specs.declared.table.Marked.TheVariants as marked
 use Rattle.term_collect.specs.Reach.{IsLive as IsLiveRoot}
 use Rattle.yices_api.specs.declared.replies.CallError.TheVariants as error
 use Rattle.yices_api.specs.declared.replies.Reply.TheVariants as reply
-use Rattle.yices_api.specs.State.{State}
-use Rattle.yices_api.specs.Calls.{Handle, of_term, IsLive, IsDead, AllLive, IsFirstDead, placed, listed, IsFirstDeadRoot, AllLiveRoots}
+use Rattle.yices_api.specs.declared.handles.ContextId.{ContextId}
+use Rattle.yices_api.specs.State.{State, context_in}
+use Rattle.yices_api.specs.Calls.{Handle, of_context, of_term, IsLive, IsDead, AllLive, IsFirstDead, placed, listed, IsFirstDeadRoot, AllLiveRoots}
 use Rattle.yices_api.specs.Told.{dead_at}
 use Rattle.yices_api.specs.Steps.{RefusesDead}
 
@@ -96,6 +97,37 @@ terms_refused s ts place found = record {
   handle = of_term found.term;
   first = first_dead s of_term 1 ts found.others found.term found.there (none_is (node_at s.table found.term) found.dead) found.earlier;
   told = let e : place ≡ 1 + found.others = omega (arith, found.behind) in ap (λ (k : ℕ). reply.Refused (error.DeadTerm k)) e;
+  same = refl;
+}
+
+-- a live context, a limit, and assumptions
+module _ (s : State) (c : ContextId) (lives : IsSome (context_in s.contexts c)) (ts : List Term) where
+  pub live_assumed : AreLive s.table ts → AllLive s ((1, of_context c) ∷ placed 3 (map of_term ts))
+  live_assumed live zero p at = subst (λ (q : ℕ × Handle). IsLive s q.1) (same_Some {A = ℕ × Handle} (1, of_context c) p at) lives
+  live_assumed live (suc i) p at = all_live s of_term 3 ts live i p at
+
+  pub refuses_assumed : (place : ℕ) → IsFirstDeadTerm s.table ts place → RefusesDead ((1, of_context c) ∷ placed 3 (map of_term ts)) s (reply.Refused (error.DeadTerm (place + 2))) s
+  refuses_assumed place found =
+      let first = first_dead s of_term 3 ts found.others found.term found.there (none_is (node_at s.table found.term) found.dead) found.earlier in
+      record {
+        place = 3 + found.others;
+        handle = of_term found.term;
+        first = record { index = suc first.index; there = first.there; dead = first.dead; earlier = earlier first };
+        told = let e : place + 2 ≡ 3 + found.others = omega (arith, found.behind) in ap (λ (k : ℕ). reply.Refused (error.DeadTerm k)) e;
+        same = refl;
+      }
+    where
+      earlier : (first : IsFirstDead s (placed 3 (map of_term ts)) (3 + found.others) (of_term found.term)) → (i : ℕ) (p : ℕ × Handle) → i < suc first.index → slice_get ((1, of_context c) ∷ placed 3 (map of_term ts)) i ≡ Some p → IsLive s p.1
+      earlier first zero p low at = subst (λ (q : ℕ × Handle). IsLive s q.1) (same_Some {A = ℕ × Handle} (1, of_context c) p at) lives
+      earlier first (suc i) p low at = first.earlier i p (omega (arith, low)) at
+
+-- the first is dead
+pub refuses_assuming_head : (s : State) (c : ContextId) (hs : List (ℕ × Handle)) → IsDead s (of_context c) → RefusesDead ((1, of_context c) ∷ hs) s (reply.Refused (error.DeadContext 1)) s
+refuses_assuming_head s c hs dead = record {
+  place = 1;
+  handle = of_context c;
+  first = record { index = 0; there = refl; dead = dead; earlier = λ i p low at. absurd (omega (arith, low)) };
+  told = refl;
   same = refl;
 }
 

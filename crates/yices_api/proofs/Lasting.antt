@@ -21,9 +21,11 @@ use Rattle.yices_api.specs.declared.handles.ContextId.{ContextId}
 use Rattle.yices_api.specs.declared.replies.CallError.{CallError}
 use Rattle.yices_api.specs.declared.replies.Reply.{Reply}
 use Rattle.yices_api.specs.declared.replies.Reply.TheVariants as reply
-use Rattle.yices_api.specs.State.{State, Levels, ContextsStay, IsFreedContext, Loses, levels_in}
+use Rattle.clause_search.specs.declared.Turns.{Turns}
+use Rattle.context_stack.specs.States.{ContextState}
+use Rattle.yices_api.specs.State.{State, ContextsStay, IsFreedContext, Loses, context_in}
 use Rattle.yices_api.specs.Calls.{Handle, IsLive, of_term, of_type, of_context, handles_of}
-use Rattle.yices_api.specs.Steps.{Alters, AddsContext, Builds, Makes, Counts, Becomes, Prints, Opens, Pushes, Drops, AssertsIn, Does, RefusesDead, Api}
+use Rattle.yices_api.specs.Steps.{Alters, AddsContext, Builds, Makes, Counts, Becomes, Prints, Opens, Pushes, Drops, AssertsIn, ChecksIn, ChecksAssuming, TellsCore, Does, RefusesDead, Api}
 use Rattle.yices_api.specs.Runs.{IsWorld, Lasts, Reaches, Runs}
 use Rattle.yices_api.proofs.Stamps.{context_cases}
 use Rattle.yices_api.proofs.Tables.{Extends, extends_self, extends_as, tree_on, sort_on, constant_extends, variable_extends, most_extend, count_extends, type_count_extends, slots_extend}
@@ -103,7 +105,7 @@ pub same_moves : (old new : State) → new ≡ old → Moves old new
 same_moves old new e = subst (Moves old) (sym e) (record { lasts = extends_last old.table old.table (extends_self old.table); nodes = extends_nodes old.table old.table (extends_self old.table); freed = λ h f. f })
 
 stay_freed : (old new : State) → ContextsStay old new → (h : ContextId) → IsFreedContext old h → IsFreedContext new h
-stay_freed old new stay h f = record { given = omega (arith, f.given, stay.made); gone = ap (λ cs. levels_in cs h) stay.contexts ∙ f.gone }
+stay_freed old new stay h f = record { given = omega (arith, f.given, stay.made); gone = ap (λ cs. context_in cs h) stay.contexts ∙ f.gone }
 
 pub table_moves : (old new : State) → Extends old.table new.table → ContextsStay old new → Moves old new
 table_moves old new ext stay = record { lasts = extends_last old.table new.table ext; nodes = extends_nodes old.table new.table ext; freed = stay_freed old new stay }
@@ -116,13 +118,13 @@ module _ (old new : State) (same : new.table ≡ old.table) where
   same_nodes : NodesLast old.table new.table
   same_nodes = subst (NodesLast old.table) (sym same) (extends_nodes old.table old.table (extends_self old.table))
 
-  alters_moves : (how : Levels → Levels → Type 0) (c : ContextId) → Alters how c old.contexts new.contexts → new.made ≡ old.made → Moves old new
+  alters_moves : (how : ContextState → ContextState → Type 0) (c : ContextId) → Alters how c old.contexts new.contexts → new.made ≡ old.made → Moves old new
   alters_moves how c alters made = record { lasts = same_lasts; nodes = same_nodes; freed = freed }
     where
       freed : (h : ContextId) → IsFreedContext old h → IsFreedContext new h
       freed h f = ⊎_elim
-          (λ (e : h ≡ c). absurd (cc (sym f.gone ∙ ap (levels_in old.contexts) e ∙ alters.was)))
-          (λ d. record { given = omega (arith, f.given, made); gone = alters.turns.others h d ∙ f.gone })
+          (λ (e : h ≡ c). absurd (cc (sym f.gone ∙ ap (context_in old.contexts) e ∙ alters.was)))
+          (λ d. record { given = omega (arith, f.given, made); gone = alters.puts.others h d ∙ f.gone })
           (context_cases h c)
 
   loses_moves : (c : ContextId) → Loses old.contexts new.contexts c → new.made ≡ old.made → Moves old new
@@ -130,7 +132,7 @@ module _ (old new : State) (same : new.table ≡ old.table) where
     where
       freed : (h : ContextId) → IsFreedContext old h → IsFreedContext new h
       freed h f = ⊎_elim
-          (λ (e : h ≡ c). record { given = omega (arith, f.given, made); gone = ap (levels_in new.contexts) e ∙ loses.gone })
+          (λ (e : h ≡ c). record { given = omega (arith, f.given, made); gone = ap (context_in new.contexts) e ∙ loses.gone })
           (λ d. record { given = omega (arith, f.given, made); gone = loses.others h d ∙ f.gone })
           (context_cases h c)
 
@@ -140,7 +142,7 @@ adds_moves old new c adds = record { lasts = same_lasts old new adds.table; node
     freed : (h : ContextId) → IsFreedContext old h → IsFreedContext new h
     freed h f = record {
       given = omega (arith, f.given, adds.made);
-      gone = adds.turns.others h (λ (e : h ≡ c). absurd (omega (arith, f.given, adds.stamp, ap (λ (z : ContextId). z.stamp) e))) ∙ f.gone;
+      gone = adds.puts.others h (λ (e : h ≡ c). absurd (omega (arith, f.given, adds.stamp, ap (λ (z : ContextId). z.stamp) e))) ∙ f.gone;
     }
 
 -- each kind of call
@@ -196,6 +198,19 @@ asserts_move c t old new (reply.Refused e) d = same_moves old new d.1
 asserts_move c t old new reply.NoMemory d = same_moves old new d
 asserts_move c t old new _ d = absurd d
 
+checks_move : (c : ContextId) (assumed : Option (List Term)) (turns : Turns) (old new : State) (r : Reply) → ChecksIn c assumed turns old r new → Moves old new
+checks_move c assumed turns old new r d = alters_moves old new d.table.table _ c d.alters d.table.made
+
+assuming_moves : (c : ContextId) (ts : List Term) (turns : Turns) (old new : State) (r : Reply) → ChecksAssuming c ts turns old r new → Moves old new
+assuming_moves c ts turns old new r (inl refuses) = same_moves old new refuses.same
+assuming_moves c ts turns old new r (inr checks) = checks_move c (Some ts) turns old new r checks
+
+core_moves : (c : ContextId) (old new : State) (r : Reply) → TellsCore c old r new → Moves old new
+core_moves c old new (reply.Terms ts) d = same_moves old new d.1
+core_moves c old new (reply.Refused e) d = same_moves old new d.2
+core_moves c old new reply.NoMemory d = same_moves old new d.1
+core_moves c old new _ d = absurd d
+
 pub up_extends : (t : Term) (w x : World) → CountsUp w x t → Extends w x
 up_extends t w x h = extends_as w (term_counted w t (count_at w t + 1)) x (sym h.new_count) (count_extends w t (count_at w t + 1))
 
@@ -247,8 +262,11 @@ does_move (call.FreeContext c) old new r d = loses_moves old new d.2.table c d.1
 does_move (call.ResetContext c) old new r d = alters_moves old new d.2.table _ c d.1 d.2.made
 does_move (call.Push c) old new r d = pushes_move c old new r d
 does_move (call.Pop c) old new r d = drops_move c old new r d
-does_move (call.ContextStatus c) old new r d = same_moves old new d.same
+does_move (call.ContextStatus c) old new r d = same_moves old new d.1
 does_move (call.AssertFormula c t) old new r d = asserts_move c t old new r d
+does_move (call.CheckContext c turns) old new r d = checks_move c None turns old new r d
+does_move (call.CheckContextWithAssumptions c turns ts) old new r d = assuming_moves c ts turns old new r d
+does_move (call.GetUnsatCore c) old new r d = core_moves c old new r d
 
 pub step_moves : (old new : State) (c : Call) (r : Reply) → Api old c r new → Moves old new
 step_moves old new c r (inl refuses) = same_moves old new refuses.same
@@ -278,7 +296,7 @@ freed_type_refused old new c r t i place freed at step =
 
 pub freed_context_refused : (old new : State) (c : Call) (r : Reply) (h : ContextId) (i place : ℕ) → IsFreedContext old h → slice_get (handles_of c) i ≡ Some (place, of_context h) → Api old c r new → RefusesDead (handles_of c) old r new
 freed_context_refused old new c r h i place freed at step =
-    dead_refused old new c r (of_context h) i place (none_not (levels_in old.contexts h) freed.gone) at step
+    dead_refused old new c r (of_context h) i place (none_not (context_in old.contexts h) freed.gone) at step
 
 -- lists of calls
 pub runs_move : (cs : List Call) (rs : List Reply) (first last : State) → Runs first cs rs last → Moves first last

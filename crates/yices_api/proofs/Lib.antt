@@ -1,6 +1,8 @@
 pub mod Tables
 pub mod Lists
+pub mod Staying
 pub mod Stamps
+pub mod Holding
 pub mod Dead
 pub mod Calling
 pub mod Rooting

@@ -34,9 +34,12 @@ use Rattle.yices_api.specs.declared.replies.Reply.{Reply}
 use Rattle.yices_api.specs.declared.replies.Reply.TheVariants as reply
 use Rattle.yices_api.specs.State.{State}
 use Rattle.yices_api.specs.Calls.{Handle, of_term, of_type, of_context}
-use Rattle.yices_api.specs.Told.{dead_at, told_build, term_or_nothing, type_or_nothing, text_or_nothing}
+use Rattle.clause_search.specs.declared.Turns.{Turns}
+use Rattle.context_stack.specs.declared.checks.Checked.{Checked}
+use Rattle.context_stack.specs.declared.checks.Checked.TheVariants as checked
+use Rattle.yices_api.specs.Told.{dead_at, told_build, told_check, term_or_nothing, type_or_nothing, text_or_nothing}
 use Rattle.yices_api.specs.Printing.{IsPrintable, IsRefusalLive, IsWantedLive}
-use Rattle.yices_api.specs.Steps.{Tells, TellsIfRoom, RefusesBuild, Builds, Makes, Counts, Becomes, Prints, Opens, Pushes, Drops, AssertsIn, IsNoFormula, Does, Api}
+use Rattle.yices_api.specs.Steps.{Tells, TellsIfRoom, RefusesBuild, Builds, Makes, Counts, Becomes, Prints, Opens, Pushes, Drops, AssertsIn, IsNoFormula, AreNoFormulas, ChecksIn, ChecksAssuming, TellsCore, Does, Api}
 use Rattle.yices_api.specs.Runs.{IsWorld}
 use Rattle.yices_api.proofs.Lasting.{sort_shape}
 use Rattle.yices_api.proofs.Tables.{Extends, most_extend}
@@ -146,6 +149,34 @@ asserts_printable c t old new (reply.Refused e) d = subst (λ (s : State). IsRef
 asserts_printable c t old new reply.NoMemory d = tt
 asserts_printable c t old new _ d = absurd d
 
+-- the verdict of a check
+check_printable : (s : State) (found : Checked) → IsPrintable s (told_check found)
+check_printable s (checked.Sat values) = tt
+check_printable s checked.Unsat = tt
+check_printable s (checked.Unknown learned) = tt
+check_printable s checked.NotBuilt = tt
+check_printable s checked.NoMemory = tt
+
+checks_printable : (c : ContextId) (assumed : Option (List Term)) (turns : Turns) (old new : State) (r : Reply) → ChecksIn c assumed turns old r new → IsPrintable new r
+checks_printable c assumed turns old new r d = as_reply new (told_check d.found) r d.told (check_printable new d.found)
+
+-- the variable below an assumption that is no formula
+no_formulas : (w : World) (ts : List Term) (e : CallError) → AreNoFormulas w ts e → IsRefusalLive w e
+no_formulas w ts (error.NotBool place) d = tt
+no_formulas w ts (error.HasVariable v) (truths, first) = let n = some_node (node_at w v) _ first.variable.has in ap is_some n.1
+no_formulas w ts _ d = absurd d
+
+assuming_printable : (c : ContextId) (ts : List Term) (turns : Turns) (old new : State) (r : Reply) → ChecksAssuming c ts turns old r new → IsPrintable new r
+assuming_printable c ts turns old new r (inl d) =
+    as_reply new (reply.Refused d.why) r d.told (subst (λ (s : State). IsRefusalLive s.table d.why) (sym d.same) (no_formulas old.table ts d.why d.refuses))
+assuming_printable c ts turns old new r (inr d) = checks_printable c (Some ts) turns old new r d
+
+core_printable : (c : ContextId) (old new : State) (r : Reply) → TellsCore c old r new → IsPrintable new r
+core_printable c old new (reply.Terms ts) d = tt
+core_printable c old new (reply.Refused e) d = plain new e error.NoCore d.0 tt
+core_printable c old new reply.NoMemory d = tt
+core_printable c old new _ d = absurd d
+
 -- the type of a term, and the newest meaning of a name
 pub typed_live : (w : World) → IsTable w → (t : Term) (of : TypeId) → HasType w t of → IsSome (type_shape_at w of)
 typed_live w table t of has = by (node_at w t) refl has
@@ -236,8 +267,11 @@ does_printable (call.FreeContext c) old new r table d = as_reply new reply.Done 
 does_printable (call.ResetContext c) old new r table d = as_reply new reply.Done r d.0 tt
 does_printable (call.Push c) old new r table d = pushes_printable c old new r d
 does_printable (call.Pop c) old new r table d = drops_printable c old new r d
-does_printable (call.ContextStatus c) old new r table d = told_same _ old new r d tt
+does_printable (call.ContextStatus c) old new r table d = as_reply new (reply.Status d.0.context.status) r d.0.so tt
 does_printable (call.AssertFormula c t) old new r table d = asserts_printable c t old new r d
+does_printable (call.CheckContext c turns) old new r table d = checks_printable c None turns old new r d
+does_printable (call.CheckContextWithAssumptions c turns ts) old new r table d = assuming_printable c ts turns old new r d
+does_printable (call.GetUnsatCore c) old new r table d = core_printable c old new r d
 
 -- whatever the call is
 pub step_printable : (old new : State) (c : Call) (r : Reply) → Api old c r new → IsWorld new → IsPrintable new r

@@ -7,8 +7,9 @@ use Rattle.slab.proofs.SlabLemmas.{Contains-entries}
 use Rattle.term_shapes.specs.declared.handles.Term.{Term}
 use Rattle.term_shapes.specs.declared.handles.TypeId.{TypeId}
 use Rattle.term_shapes.specs.declared.shapes.Node.{Node}
-use Rattle.term_table.specs.World.{World, node_at, type_shape_at}
+use Rattle.term_table.specs.World.{World, node_at, type_shape_at, IsTable}
 use Rattle.term_collect.proofs.Listed.{kept_live, kept_live_types}
+use Rattle.y_tree.specs.Sorts.{boolean}
 use Rattle.term_table.specs.Checking.{AreLive}
 use Rattle.term_table.specs.declared.table.Marked.{Marked}
 use Rattle.term_table.specs.declared.table.Marked.TheVariants as marked
@@ -18,9 +19,13 @@ use Rattle.term_collect.specs.Reach.Reaches.{itself}
 use Rattle.term_collect.specs.Marking.{Keeping}
 use Rattle.yices_api.specs.declared.handles.ContextId.{ContextId}
 use Rattle.yices_api.specs.declared.held.Held.{Held}
-use Rattle.yices_api.specs.State.{Contexts, Levels, HasLevels, IsEnvironment, all_formulas, formulas, formulas_of, levels_under}
+use Rattle.term_checks.specs.Formulas.{IsFormula, AreFormulas}
+use Rattle.context_stack.specs.Levels.{formulas}
+use Rattle.context_stack.specs.States.{ContextState, core_terms, held_terms}
+use Rattle.yices_api.specs.State.{Contexts, HasContext, IsEnvironment, terms_of_contexts, terms_of, context_under}
 use Rattle.yices_api.specs.Calls.{AllLiveRoots, listed_terms, listed_types}
 use Rattle.yices_api.proofs.Stamps.{state, held_under, under_own}
+use Rattle.yices_api.proofs.Staying.{formula_left, formulas_live, sort_live}
 use Rattle.yices_api.proofs.Lists.{in_front, in_back, live_append, live_front, live_back, live_none, live_alone, formulas_last}
 
 -- the listed terms are live, and the listed types
@@ -30,22 +35,22 @@ roots_terms w (marked.Term t ∷ ms) h zero u at = subst (λ v. IsSome (node_at 
 roots_terms w (marked.Term t ∷ ms) h (suc i) u at = roots_terms w ms (λ j. h (suc j)) i u at
 roots_terms w (marked.TypeId t ∷ ms) h i u at = roots_terms w ms (λ j. h (suc j)) i u at
 
--- what is held at an index holds formulas of all contexts
+-- what is held at an index is among what all contexts hold
 module _ (w : World) where
-  -- each formula of what keys hold is live, where each key's is
-  pub held_live : (es : List (ℕ × Held)) → ((i : ℕ) (e : ℕ × Held) → slice_get es i ≡ Some e → AreLive w (formulas e.1.context)) → AreLive w (formulas_of es)
+  -- all that keys hold is live, where what each key holds is
+  pub held_live : (es : List (ℕ × Held)) → ((i : ℕ) (e : ℕ × Held) → slice_get es i ≡ Some e → AreLive w (held_terms e.1.context)) → AreLive w (terms_of es)
   held_live [] h = live_none w
-  held_live (e ∷ es) h = live_append w (formulas e.1.context) (formulas_of es) (h 0 e refl) (held_live es (λ i. h (suc i)))
+  held_live (e ∷ es) h = live_append w (held_terms e.1.context) (terms_of es) (h 0 e refl) (held_live es (λ i. h (suc i)))
 
--- a formula of what one key holds is one of all
-pub in_formulas : (es : List (ℕ × Held)) (i : ℕ) (e : ℕ × Held) (j : ℕ) (t : Term) → slice_get es i ≡ Some e → slice_get (formulas e.1.context) j ≡ Some t → (k : ℕ) × (slice_get (formulas_of es) k ≡ Some t)
-in_formulas [] i e j t at there = absurd (cc at)
-in_formulas (d ∷ es) zero e j t at there =
-    let is : slice_get (formulas d.1.context) j ≡ Some t = ap (λ (z : ℕ × Held). slice_get (formulas z.1.context) j) (same_Some {A = ℕ × Held} d e at) ∙ there in
-    (j, in_front (formulas d.1.context) (formulas_of es) j t is)
-in_formulas (d ∷ es) (suc i) e j t at there =
-    let r = in_formulas es i e j t at there in
-    in_back (formulas d.1.context) (formulas_of es) r.0 t r.1
+-- a term of what one key holds is one of all
+pub in_terms : (es : List (ℕ × Held)) (i : ℕ) (e : ℕ × Held) (j : ℕ) (t : Term) → slice_get es i ≡ Some e → slice_get (held_terms e.1.context) j ≡ Some t → (k : ℕ) × (slice_get (terms_of es) k ≡ Some t)
+in_terms [] i e j t at there = absurd (cc at)
+in_terms (d ∷ es) zero e j t at there =
+    let is : slice_get (held_terms d.1.context) j ≡ Some t = ap (λ (z : ℕ × Held). slice_get (held_terms z.1.context) j) (same_Some {A = ℕ × Held} d e at) ∙ there in
+    (j, in_front (held_terms d.1.context) (terms_of es) j t is)
+in_terms (d ∷ es) (suc i) e j t at there =
+    let r = in_terms es i e j t at there in
+    in_back (held_terms d.1.context) (terms_of es) r.0 t r.1
 
 -- an item that a list contains has an index
 get_from : {X : Type 0} (xs : List X) (i : ℕ) (x : X) → i < length xs → get_or xs i x ≡ x → slice_get xs i ≡ Some x
@@ -62,40 +67,38 @@ get_to (y ∷ xs) (suc i) x at = let r = get_to xs i x at in (omega (arith, r.0)
 abbrev slab_of : Contexts → Slab Held
 slab_of cs = record { slots = cs; vacant_key = 0; capacity = 0 }
 
--- the formulas of all contexts are live
-pub all_live_formulas : (w : World) (cs : Contexts) (m : ℕ) → IsEnvironment (state w cs m) → AreLive w (all_formulas cs)
-all_live_formulas w cs m env = held_live w (entries_from 0 cs) by
+-- what all contexts hold is live
+pub all_live_terms : (w : World) (cs : Contexts) (m : ℕ) → IsEnvironment (state w cs m) → AreLive w (terms_of_contexts cs)
+all_live_terms w cs m env = held_live w (entries_from 0 cs) by
   where
-    by : (i : ℕ) (e : ℕ × Held) → slice_get (entries_from 0 cs) i ≡ Some e → AreLive w (formulas e.1.context)
+    by : (i : ℕ) (e : ℕ × Held) → slice_get (entries_from 0 cs) i ≡ Some e → AreLive w (held_terms e.1.context)
     by i e at =
         let r = get_to (entries_from 0 cs) i e at in
         let here : slice_index_or cs e.0 None ≡ Some e.1 = (Contains-entries (slab_of cs) e.0 e.1).0 (i, r.0, r.1) in
         let c : ContextId = record { key = e.0; stamp = e.1.stamp } in
-        let has : HasLevels cs c e.1.context = ap (levels_under e.1.stamp) here ∙ under_own e.1.stamp e.1 refl in
-        env.live c e.1.context has
+        let has : HasContext cs c e.1.context = ap (context_under e.1.stamp) here ∙ under_own e.1.stamp e.1 refl in
+        formulas_live w (held_terms e.1.context) (env.formulas c e.1.context has)
+
+-- a term that a live context holds is among what all contexts hold
+held_listed : (cs : Contexts) (c : ContextId) (x : ContextState) → HasContext cs c x → (i : ℕ) (t : Term) → slice_get (held_terms x) i ≡ Some t → (k : ℕ) × (slice_get (terms_of_contexts cs) k ≡ Some t)
+held_listed cs c x has i t at =
+    let h = held_under c.stamp (slice_index_or cs c.key None) x has in
+    let there = (Contains-entries (slab_of cs) c.key h.0).1 h.1 in
+    let entry : slice_get (entries_from 0 cs) there.0 ≡ Some (c.key, h.0) = get_from (entries_from 0 cs) there.0 (c.key, h.0) there.1 there.2 in
+    let same : slice_get (held_terms h.0.context) i ≡ Some t = ap (λ (z : ContextState). slice_get (held_terms z) i) h.3 ∙ at in
+    in_terms (entries_from 0 cs) there.0 (c.key, h.0) i t entry same
 
 -- a collection from them keeps what always holds
-pub collected_environment : (w x : World) (cs : Contexts) (m : ℕ) (ts : List Term) (us : List TypeId) (b : Bool) → IsEnvironment (state w cs m) → Leaves w x (IsReached w (IsKept w (ts ++ all_formulas cs) us b)) → IsEnvironment (state x cs m)
-collected_environment w x cs m ts us b env leaves = record { live = live; given = env.given; few = env.few }
+pub collected_environment : (w x : World) (cs : Contexts) (m : ℕ) (ts : List Term) (us : List TypeId) (b : Bool) → IsTable w → IsEnvironment (state w cs m) → Leaves w x (IsReached w (IsKept w (ts ++ terms_of_contexts cs) us b)) → IsEnvironment (state x cs m)
+collected_environment w x cs m ts us b table env leaves = record { formulas = stay; given = env.given; few = env.few }
   where
-    kept : (t : Term) → IsSome (node_at w t) → (j : ℕ) → slice_get (all_formulas cs) j ≡ Some t → IsSome (node_at x t)
-    kept t lives j at = by (node_at w t) refl lives
-      where
-        listed : IsListed (ts ++ all_formulas cs) us (marked.Term t)
-        listed = let r = in_back ts (all_formulas cs) j t at in inl (r.0, (t, r.1, refl))
-
-        by : (o : Option Node) → node_at w t ≡ o → IsSome o → IsSome (node_at x t)
-        by None e h = absurd (cc h)
-        by (Some n) e h = ap is_some (leaves.term t n e (marked.Term t, lives, inr (inl listed), itself))
-
-    live : (c : ContextId) (ls : Levels) → HasLevels cs c ls → AreLive x (formulas ls)
-    live c ls has i t at =
-        let h = held_under c.stamp (slice_index_or cs c.key None) ls has in
-        let there = (Contains-entries (slab_of cs) c.key h.0).1 h.1 in
-        let entry : slice_get (entries_from 0 cs) there.0 ≡ Some (c.key, h.0) = get_from (entries_from 0 cs) there.0 (c.key, h.0) there.1 there.2 in
-        let formula : slice_get (formulas h.0.context) i ≡ Some t = ap (λ z. slice_get (formulas z) i) h.3 ∙ at in
-        let r = in_formulas (entries_from 0 cs) there.0 (c.key, h.0) i t entry formula in
-        kept t (env.live c ls has i t at) r.0 r.1
+    stay : (c : ContextId) (y : ContextState) → HasContext cs c y → AreFormulas x (held_terms y)
+    stay c y has t here =
+        let is : IsFormula w t = env.formulas c y has t here in
+        let k = held_listed cs c y has here.place t here.at in
+        let r = in_back ts (terms_of_contexts cs) k.0 t k.1 in
+        let listed : IsListed (ts ++ terms_of_contexts cs) us (marked.Term t) = inl (r.0, (t, r.1, refl)) in
+        formula_left w x table (IsKept w (ts ++ terms_of_contexts cs) us b) leaves t (marked.Term t, sort_live w t boolean is.sort, inr (inl listed), itself) is
 
 -- the terms and types among listed handles, one more at a time
 pub listed_terms_append : (ms ns : List Marked) → listed_terms (ms ++ ns) ≡ listed_terms ms ++ listed_terms ns
@@ -124,14 +127,14 @@ take_at [] i x at = absurd (cc at)
 take_at (y ∷ xs) zero x at = ap (λ z. z ∷ []) (same_Some y x at)
 take_at (y ∷ xs) (suc i) x at = ap (λ z. y ∷ z) (take_at xs i x at)
 
-module _ (old now : World) (ts : List Term) (us : List TypeId) (ls : Levels) (i : ℕ) (roots : List Term) (at : slice_get ls i ≡ Some roots) where
+module _ (old now : World) (ts : List Term) (us : List TypeId) (ls : List (List Term)) (i : ℕ) (roots : List Term) (at : slice_get ls i ≡ Some roots) where
   pub one_more_level : Keeping old now ((ts ++ formulas (take i ls)) ++ roots) us → Keeping old now (ts ++ formulas (take (suc i) ls)) us
   one_more_level h = keeping_as old now _ _ _ _ h
       (append_assoc ts (formulas (take i ls)) roots ∙ ap (λ z. ts ++ z) (sym (formulas_last (take i ls) roots) ∙ ap formulas (sym (take_at ls i roots at))))
       refl
 
 -- one level of live ones is live
-pub level_live : (w : World) (ls : Levels) (i : ℕ) (roots : List Term) → AreLive w (formulas ls) → slice_get ls i ≡ Some roots → AreLive w roots
+pub level_live : (w : World) (ls : List (List Term)) (i : ℕ) (roots : List Term) → AreLive w (formulas ls) → slice_get ls i ≡ Some roots → AreLive w roots
 level_live w [] i roots live at = absurd (cc at)
 level_live w (ts ∷ ls) zero roots live at = subst (AreLive w) (same_Some ts roots at) (live_front w ts (formulas ls) live)
 level_live w (ts ∷ ls) (suc i) roots live at = level_live w ls i roots (live_back w ts (formulas ls) live) at
@@ -151,26 +154,38 @@ got [] i d low = absurd (omega (arith, low))
 got (x ∷ xs) zero d low = refl
 got (x ∷ xs) (suc i) d low = got xs i d (omega (arith, low))
 
--- the formulas of the contexts that were gone through are kept, and those of the rest are left
+-- what the contexts that were gone through hold is kept, and what the rest holds is left
 pub record KeptSome (first now : World) (rest : List (ℕ × Held)) (all : List Term) : Type 0 where
   pub done : List Term
-  pub split : done ++ formulas_of rest ≡ all
+  pub split : done ++ terms_of rest ≡ all
   pub keeps : (old : World) (ts : List Term) (us : List TypeId) → Keeping old first ts us → Keeping old now (ts ++ done) us
 
 -- what the next key holds is live
-pub some_live : (w : World) (done all : List Term) (it rest : List (ℕ × Held)) (e : ℕ × Held) → AreLive w all → done ++ formulas_of it ≡ all → it ≡ e ∷ rest → AreLive w (formulas e.1.context)
+pub some_live : (w : World) (done all : List Term) (it rest : List (ℕ × Held)) (e : ℕ × Held) → AreLive w all → done ++ terms_of it ≡ all → it ≡ e ∷ rest → AreLive w (held_terms e.1.context)
 some_live w done all it rest e live split step =
-    live_front w (formulas e.1.context) (formulas_of rest) (live_back w done (formulas e.1.context ++ formulas_of rest) (subst (AreLive w) (sym split ∙ ap (λ z. done ++ formulas_of z) step) live))
+    live_front w (held_terms e.1.context) (terms_of rest) (live_back w done (held_terms e.1.context ++ terms_of rest) (subst (AreLive w) (sym split ∙ ap (λ z. done ++ terms_of z) step) live))
 
 -- one context more
-pub some_more : (first now new : World) (it rest : List (ℕ × Held)) (all : List Term) (e : ℕ × Held) → KeptSome first now it all → it ≡ e ∷ rest → ((old : World) (ts : List Term) (us : List TypeId) → Keeping old now ts us → Keeping old new (ts ++ formulas e.1.context) us) → KeptSome first new rest all
+pub some_more : (first now new : World) (it rest : List (ℕ × Held)) (all : List Term) (e : ℕ × Held) → KeptSome first now it all → it ≡ e ∷ rest → ((old : World) (ts : List Term) (us : List TypeId) → Keeping old now ts us → Keeping old new (ts ++ held_terms e.1.context) us) → KeptSome first new rest all
 some_more first now new it rest all e some step more = record {
-  done = some.done ++ formulas e.1.context;
-  split = append_assoc some.done (formulas e.1.context) (formulas_of rest) ∙ sym (ap (λ z. some.done ++ formulas_of z) step) ∙ some.split;
-  keeps = λ old ts us kept. keeping_as old new _ _ _ _ (more old (ts ++ some.done) us (some.keeps old ts us kept)) (append_assoc ts some.done (formulas e.1.context)) refl;
+  done = some.done ++ held_terms e.1.context;
+  split = append_assoc some.done (held_terms e.1.context) (terms_of rest) ∙ sym (ap (λ z. some.done ++ terms_of z) step) ∙ some.split;
+  keeps = λ old ts us kept. keeping_as old new _ _ _ _ (more old (ts ++ some.done) us (some.keeps old ts us kept)) (append_assoc ts some.done (held_terms e.1.context)) refl;
 }
 
 -- none is left
 pub some_all : (first now : World) (it : List (ℕ × Held)) (all : List Term) → KeptSome first now it all → it ≡ [] → (old : World) (ts : List Term) (us : List TypeId) → Keeping old first ts us → Keeping old now (ts ++ all) us
 some_all first now it all some none old ts us kept =
-    keeping_as old now _ _ _ _ (some.keeps old ts us kept) (ap (λ z. ts ++ z) (sym (append-nil some.done) ∙ sym (ap (λ z. some.done ++ formulas_of z) none) ∙ some.split)) refl
+    keeping_as old now _ _ _ _ (some.keeps old ts us kept) (ap (λ z. ts ++ z) (sym (append-nil some.done) ∙ sym (ap (λ z. some.done ++ terms_of z) none) ∙ some.split)) refl
+
+-- the terms of a core are live, where all that the context holds is
+pub core_live : (w : World) (x : ContextState) (core : List Term) → x.core ≡ Some core → AreLive w (held_terms x) → AreLive w core
+core_live w x core e live = subst (λ (z : Option (List Term)). AreLive w (core_terms z)) e (live_back w (formulas x.levels) (core_terms x.core) live)
+
+-- the formulas of a context, and the terms of its core where it has one
+module _ (old now : World) (ts : List Term) (us : List TypeId) (x : ContextState) where
+  pub core_kept : (core : List Term) → x.core ≡ Some core → Keeping old now ((ts ++ formulas x.levels) ++ core) us → Keeping old now (ts ++ held_terms x) us
+  core_kept core e h = keeping_as old now _ _ _ _ h (append_assoc ts (formulas x.levels) core ∙ ap (λ z. ts ++ (formulas x.levels ++ core_terms z)) (sym e)) refl
+
+  pub no_core_kept : x.core ≡ None → Keeping old now (ts ++ formulas x.levels) us → Keeping old now (ts ++ held_terms x) us
+  no_core_kept e h = keeping_as old now _ _ _ _ h (ap (λ z. ts ++ z) (sym (append-nil (formulas x.levels)) ∙ ap (λ z. formulas x.levels ++ core_terms z) (sym e))) refl

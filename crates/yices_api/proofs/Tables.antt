@@ -124,3 +124,6 @@ slots_extend old new e f = record {
   types = λ u s h. ap (λ z. held_at z u.slot u.stamp) f ∙ h;
   after = record { terms = λ i. omega (arith, ap (λ z. stamp_at z i) e); types = λ i. omega (arith, ap (λ z. stamp_at z i) f) };
 }
+
+pub replaced_extends : (old mid new : World) → new ≡ mid → mid.terms ≡ old.terms → mid.types ≡ old.types → Extends old new
+replaced_extends old mid new is e f = extends_as old mid new (sym is) (slots_extend old mid e f)

@@ -11,7 +11,7 @@ use Rattle.term_table.specs.declared.table.Marked.TheVariants as marked
 use Rattle.yices_api.specs.declared.handles.ContextId.{ContextId}
 use Rattle.yices_api.specs.declared.calls.Call.{Call}
 use Rattle.yices_api.specs.declared.calls.Call.TheVariants as call
-use Rattle.yices_api.specs.State.{State, levels_in}
+use Rattle.yices_api.specs.State.{State, context_in}
 
 -- a handle of any kind
 pub data Handle : Type 0 where
@@ -23,13 +23,13 @@ pub data Handle : Type 0 where
 abbrev pub IsLive : State → Handle → Type 0
 IsLive s (of_term t) = IsSome (node_at s.table t)
 IsLive s (of_type t) = IsSome (type_shape_at s.table t)
-IsLive s (of_context c) = IsSome (levels_in s.contexts c)
+IsLive s (of_context c) = IsSome (context_in s.contexts c)
 
 -- it is dead
 abbrev pub IsDead : State → Handle → Type 0
 IsDead s (of_term t) = IsNone (node_at s.table t)
 IsDead s (of_type t) = IsNone (type_shape_at s.table t)
-IsDead s (of_context c) = IsNone (levels_in s.contexts c)
+IsDead s (of_context c) = IsNone (context_in s.contexts c)
 
 -- a listed handle of a term or of a type
 abbrev pub listed : Marked → Handle
@@ -76,6 +76,9 @@ other_handles (call.Push c) = placed 1 (of_context c ∷ [])
 other_handles (call.Pop c) = placed 1 (of_context c ∷ [])
 other_handles (call.ContextStatus c) = placed 1 (of_context c ∷ [])
 other_handles (call.AssertFormula c t) = placed 1 (of_context c ∷ of_term t ∷ [])
+other_handles (call.CheckContext c turns) = placed 1 (of_context c ∷ [])
+other_handles (call.CheckContextWithAssumptions c turns ts) = (1, of_context c) ∷ placed 3 (map of_term ts)
+other_handles (call.GetUnsatCore c) = placed 1 (of_context c ∷ [])
 other_handles _ = []
 
 -- the arguments of a constructor, or else the handles of that call

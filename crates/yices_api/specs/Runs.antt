@@ -11,7 +11,7 @@ use Rattle.yices_api.specs.declared.replies.Reply.{Reply}
 use Rattle.yices_api.specs.State.{State, IsEnvironment}
 use Rattle.yices_api.specs.Steps.{Api}
 
--- what always holds: the table is one, and its contexts' formulas are live
+-- what always holds: the table is one, and what its contexts hold is formulas of it
 pub record IsWorld (s : State) : Type 0 where
   pub table : IsTable s.table
   pub environment : IsEnvironment s

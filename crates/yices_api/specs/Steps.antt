@@ -1,5 +1,5 @@
 -- The step of the interface: what each call replies and does, and why it is refused.
-use Rattle.std.specs.Prelude.{◌≡◌, ℕ, ◌<◌, ◌≤◌, ◌+◌, ◌⊎◌, Bool, List, [], ◌∷◌, ◌++◌, length, Option, Some, None, is_some}
+use Rattle.std.specs.Prelude.{◌≡◌, ℕ, ◌<◌, ◌≤◌, ◌+◌, ◌⊎◌, Bool, List, [], ◌∷◌, ◌++◌, length, Option, Some, None, IsSome, is_some}
 use Rattle.y_tree.specs.Sorts.{boolean}
 use Rattle.stamped_slots.specs.Slots.{live, taken}
 use Rattle.name_stacks.specs.Names.{newest}
@@ -20,8 +20,12 @@ use Rattle.term_build.specs.Building.{AddsAtMost, IsBuilt, MayAdd, RefusesCall}
 use Rattle.term_build.specs.declared.errors.BuildError.{BuildError}
 use Rattle.term_texts.specs.TermTexts.{Writes, IsLong, text_limit, term_name}
 use Rattle.term_texts.specs.TypeTexts.{type_name}
-use Rattle.context_stack.specs.Steps.{Asserts, Pops, IsFormula}
-use Rattle.context_stack.specs.declared.errors.Status.TheVariants as status
+use Rattle.clause_search.specs.declared.Turns.{Turns}
+use Rattle.term_checks.specs.Formulas.{IsFormula}
+use Rattle.context_stack.specs.declared.checks.Checked.{Checked}
+use Rattle.context_stack.specs.States.{ContextState, IsUnchecked}
+use Rattle.context_stack.specs.Steps.{Asserts, Pops}
+use Rattle.context_stack.specs.Checks.{AreTruthValues, Checks, HasFirstVariable, IsFirstOther}
 use Rattle.yices_api.specs.declared.handles.ContextId.{ContextId}
 use Rattle.yices_api.specs.declared.calls.Call.{Call}
 use Rattle.yices_api.specs.declared.calls.Call.TheVariants as call
@@ -29,9 +33,9 @@ use Rattle.yices_api.specs.declared.replies.CallError.{CallError}
 use Rattle.yices_api.specs.declared.replies.CallError.TheVariants as error
 use Rattle.yices_api.specs.declared.replies.Reply.{Reply}
 use Rattle.yices_api.specs.declared.replies.Reply.TheVariants as reply
-use Rattle.yices_api.specs.State.{State, Levels, Contexts, HasLevels, Turns, Loses, ContextsStay, all_formulas}
+use Rattle.yices_api.specs.State.{State, Contexts, HasContext, Puts, Loses, ContextsStay, terms_of_contexts}
 use Rattle.yices_api.specs.Calls.{Handle, made_by, handles_of, IsFirstDead, AllLive, listed_terms, listed_types}
-use Rattle.yices_api.specs.Told.{dead_at, told_build, term_or_nothing, type_or_nothing, text_or_nothing}
+use Rattle.yices_api.specs.Told.{dead_at, told_build, told_check, term_or_nothing, type_or_nothing, text_or_nothing}
 
 -- it replies that, and nothing changes
 pub record Tells (a : Reply) (old : State) (r : Reply) (new : State) : Type 0 where
@@ -87,34 +91,41 @@ Prints t old (reply.Refused e) new = (e ≡ error.TooLong) × IsLong old.table t
 Prints t old reply.NoMemory new = new ≡ old
 Prints t old _ new = ⊥
 
--- what nothing reaches is freed: neither a permanent one, nor what is counted, nor a listed handle, nor a formula of a context, nor, where asked, what a name means
+-- what nothing reaches is freed: neither a permanent one, nor what is counted, nor a listed handle, nor a formula or a core of a context, nor, where asked, what a name means
 abbrev pub Frees : Bool → List Marked → State → Reply → State → Type 0
-Frees keep_named roots old r new = (r ≡ reply.Done) × Leaves old.table new.table (IsReached old.table (IsKept old.table (listed_terms roots ++ all_formulas old.contexts) (listed_types roots) keep_named)) × ContextsStay old new
+Frees keep_named roots old r new = (r ≡ reply.Done) × Leaves old.table new.table (IsReached old.table (IsKept old.table (listed_terms roots ++ terms_of_contexts old.contexts) (listed_types roots) keep_named)) × ContextsStay old new
 
 -- only the contexts may change
 pub record TableStays (old new : State) : Type 0 where
   pub table : new.table ≡ old.table
   pub made : new.made ≡ old.made
 
--- the levels of a context change so, and every other one keeps its own
-pub record Alters (how : Levels → Levels → Type 0) (c : ContextId) (old new : Contexts) : Type 0 where
-  pub before : Levels
-  pub was : HasLevels old c before
-  pub after : Levels
+-- a context changes so, and every other one stays
+pub record Alters (how : ContextState → ContextState → Type 0) (c : ContextId) (old new : Contexts) : Type 0 where
+  pub before : ContextState
+  pub was : HasContext old c before
+  pub after : ContextState
   pub changed : how before after
-  pub turns : Turns old new c after
+  pub puts : Puts old new c after
 
--- the levels of a context are so
-pub record Finds (how : Levels → Type 0) (c : ContextId) (cs : Contexts) : Type 0 where
-  pub levels : Levels
-  pub has : HasLevels cs c levels
-  pub so : how levels
+-- a context is so
+pub record Finds (how : ContextState → Type 0) (c : ContextId) (cs : Contexts) : Type 0 where
+  pub context : ContextState
+  pub has : HasContext cs c context
+  pub so : how context
 
--- a new context with one empty list of formulas, under a stamp that none had
+-- the levels of a context change so, and nothing is known of them
+abbrev pub Relevels : (List (List Term) → List (List Term) → Type 0) → ContextState → ContextState → Type 0
+Relevels how x y = how x.levels y.levels × IsUnchecked y
+
+-- a new context with one empty list of formulas, of which nothing is known, under a stamp that none had
 pub record AddsContext (c : ContextId) (old new : State) : Type 0 where
   pub below : old.made < 4294967296
   pub stamp : c.stamp ≡ old.made
-  pub turns : Turns old.contexts new.contexts c ([] ∷ [])
+  pub context : ContextState
+  pub levels : context.levels ≡ [] ∷ []
+  pub unchecked : IsUnchecked context
+  pub puts : Puts old.contexts new.contexts c context
   pub table : new.table ≡ old.table
   pub made : new.made ≡ old.made + 1
 
@@ -131,19 +142,19 @@ Closes c old r new = (r ≡ reply.Done) × Loses old.contexts new.contexts c × 
 
 -- one empty list of formulas is left
 abbrev pub Resets : ContextId → State → Reply → State → Type 0
-Resets c old r new = (r ≡ reply.Done) × Alters (λ ls ms. ms ≡ [] ∷ []) c old.contexts new.contexts × TableStays old new
+Resets c old r new = (r ≡ reply.Done) × Alters (Relevels (λ ls ms. ms ≡ [] ∷ [])) c old.contexts new.contexts × TableStays old new
 
 -- a level more; or there are 65,536 over the bottom one, or memory is refused
 abbrev pub Pushes : ContextId → State → Reply → State → Type 0
-Pushes c old reply.Done new = Alters (λ ls ms. (length ls < 65537) × (ms ≡ ls ++ [] ∷ [])) c old.contexts new.contexts × TableStays old new
-Pushes c old (reply.Refused e) new = (e ≡ error.TooDeep) × Finds (λ ls. length ls ≡ 65537) c old.contexts × (new ≡ old)
+Pushes c old reply.Done new = Alters (Relevels (λ ls ms. (length ls < 65537) × (ms ≡ ls ++ [] ∷ []))) c old.contexts new.contexts × TableStays old new
+Pushes c old (reply.Refused e) new = (e ≡ error.TooDeep) × Finds (λ x. length x.levels ≡ 65537) c old.contexts × (new ≡ old)
 Pushes c old reply.NoMemory new = new ≡ old
 Pushes c old _ new = ⊥
 
 -- the newest level is gone; or there is none over the bottom one
 abbrev pub Drops : ContextId → State → Reply → State → Type 0
-Drops c old reply.Done new = Alters Pops c old.contexts new.contexts × TableStays old new
-Drops c old (reply.Refused e) new = (e ≡ error.BottomLevel) × Finds (λ ls. length ls ≡ 1) c old.contexts × (new ≡ old)
+Drops c old reply.Done new = Alters (Relevels Pops) c old.contexts new.contexts × TableStays old new
+Drops c old (reply.Refused e) new = (e ≡ error.BottomLevel) × Finds (λ x. length x.levels ≡ 1) c old.contexts × (new ≡ old)
 Drops c old _ new = ⊥
 
 -- why a live term is no formula
@@ -154,10 +165,45 @@ IsNoFormula w t _ = ⊥
 
 -- a formula more on the newest level; or the term is none, or memory is refused
 abbrev pub AssertsIn : ContextId → Term → State → Reply → State → Type 0
-AssertsIn c t old reply.Done new = IsFormula old.table t × Alters (λ ls ms. Asserts ls ms t) c old.contexts new.contexts × TableStays old new
+AssertsIn c t old reply.Done new = IsFormula old.table t × Alters (Relevels (λ ls ms. Asserts ls ms t)) c old.contexts new.contexts × TableStays old new
 AssertsIn c t old (reply.Refused e) new = IsNoFormula old.table t e × (new ≡ old)
 AssertsIn c t old reply.NoMemory new = new ≡ old
 AssertsIn c t old _ new = ⊥
+
+-- what is known of the formulas is replied
+abbrev pub TellsStatus : ContextId → State → Reply → State → Type 0
+TellsStatus c old r new = Finds (λ x. r ≡ reply.Status x.status) c old.contexts × (new ≡ old)
+
+-- the formulas now on the levels of a context are checked, with assumptions or without, under a limit of turns: the verdict is of these, and is the status from then on; or a term below them is no truth value, or memory is refused, and no status is left
+pub record ChecksIn (c : ContextId) (assumed : Option (List Term)) (turns : Turns) (old : State) (r : Reply) (new : State) : Type 0 where
+  pub found : Checked
+  pub told : r ≡ told_check found
+  pub alters : Alters (Checks old.table assumed turns found) c old.contexts new.contexts
+  pub table : TableStays old new
+
+-- why live terms aren't all formulas: the first that is no truth value, or else a variable below the first that has one
+abbrev pub AreNoFormulas : World → List Term → CallError → Type 0
+AreNoFormulas w ts (error.NotBool place) = IsFirstOther w ts place
+AreNoFormulas w ts (error.HasVariable v) = AreTruthValues w ts × HasFirstVariable w ts v
+AreNoFormulas w ts _ = ⊥
+
+-- an assumption is no formula, which is told, and nothing changes
+pub record RefusesAssumptions (ts : List Term) (old : State) (r : Reply) (new : State) : Type 0 where
+  pub why : CallError
+  pub refuses : AreNoFormulas old.table ts why
+  pub told : r ≡ reply.Refused why
+  pub same : new ≡ old
+
+-- a check with assumptions
+abbrev pub ChecksAssuming : ContextId → List Term → Turns → State → Reply → State → Type 0
+ChecksAssuming c ts turns old r new = RefusesAssumptions ts old r new ⊎ ChecksIn c (Some ts) turns old r new
+
+-- the core of the newest check is replied; or there is none, or memory is refused
+abbrev pub TellsCore : ContextId → State → Reply → State → Type 0
+TellsCore c old (reply.Terms ts) new = Finds (λ x. x.core ≡ Some ts) c old.contexts × (new ≡ old)
+TellsCore c old (reply.Refused e) new = (e ≡ error.NoCore) × Finds (λ x. x.core ≡ None) c old.contexts × (new ≡ old)
+TellsCore c old reply.NoMemory new = Finds (λ x. IsSome x.core) c old.contexts × (new ≡ old)
+TellsCore c old _ new = ⊥
 
 -- what a call does that is no constructor, where its handles are live
 abbrev pub DoesOther : Call → State → Reply → State → Type 0
@@ -188,8 +234,11 @@ DoesOther (call.FreeContext c) old r new = Closes c old r new
 DoesOther (call.ResetContext c) old r new = Resets c old r new
 DoesOther (call.Push c) old r new = Pushes c old r new
 DoesOther (call.Pop c) old r new = Drops c old r new
-DoesOther (call.ContextStatus c) old r new = Tells (reply.Status status.Idle) old r new
+DoesOther (call.ContextStatus c) old r new = TellsStatus c old r new
 DoesOther (call.AssertFormula c t) old r new = AssertsIn c t old r new
+DoesOther (call.CheckContext c turns) old r new = ChecksIn c None turns old r new
+DoesOther (call.CheckContextWithAssumptions c turns ts) old r new = ChecksAssuming c ts turns old r new
+DoesOther (call.GetUnsatCore c) old r new = TellsCore c old r new
 DoesOther _ old r new = ⊥
 
 -- what a call does where its handles are live

@@ -8,6 +8,9 @@ use Rattle.term_build.specs.declared.errors.BuildError.{BuildError}
 use Rattle.term_build.specs.declared.errors.BuildError.TheVariants as build_error
 use Rattle.context_stack.specs.declared.errors.ContextError.{ContextError}
 use Rattle.context_stack.specs.declared.errors.ContextError.TheVariants as context_error
+use Rattle.context_stack.specs.declared.checks.Checked.{Checked}
+use Rattle.context_stack.specs.declared.checks.Checked.TheVariants as checked
+use Rattle.context_stack.specs.Checks.{status_of}
 use Rattle.yices_api.specs.Calls.{Handle, of_term, of_type, of_context}
 use Rattle.yices_api.specs.declared.replies.CallError.{CallError}
 use Rattle.yices_api.specs.declared.replies.CallError.TheVariants as error
@@ -48,6 +51,12 @@ told_context place (context_error.HasVariable v) = reply.Refused (error.HasVaria
 told_context place context_error.TooDeep = reply.Refused error.TooDeep
 told_context place context_error.BottomLevel = reply.Refused error.BottomLevel
 told_context place context_error.NoMemory = reply.NoMemory
+
+-- the answer of a check: its verdict, or why there is none
+abbrev pub told_check : Checked → Reply
+told_check checked.NotBuilt = reply.Refused error.NotBuilt
+told_check checked.NoMemory = reply.NoMemory
+told_check found = reply.Status (status_of found)
 
 -- a term that may be there, a type that may be there, a text that may be there
 abbrev pub term_or_nothing : Option Term → Reply

@@ -4,6 +4,7 @@ ghost use Rattle.std.specs.Prelude.{◌≡◌, ◌++◌, ◌∷◌, [], OnOk, On
 use crate::handles::ContextId;
 use std::alloc::{AllocError, Global};
 use std::marker::Model;
+use term_checks::Turns;
 use term_table::{Marked, Term, Terms, TypeId};
 use y_io::Text;
 
@@ -141,4 +142,10 @@ pub enum Call {
     ContextStatus(ContextId),
     /// Asserts the term in the context.
     AssertFormula(ContextId, Term),
+    /// Checks the context's formulas under a limit of turns.
+    CheckContext(ContextId, Turns),
+    /// Checks the context's formulas together with these assumptions under a limit of turns.
+    CheckContextWithAssumptions(ContextId, Turns, Terms),
+    /// The assumptions to blame, where the newest check of the context found some.
+    GetUnsatCore(ContextId),
 }

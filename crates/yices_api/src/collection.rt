@@ -1,4 +1,4 @@
-//! The collection: each formula of each context is a root. It takes no memory.
+//! The collection: each formula of each context is a root, and so are the terms of its core. It takes no memory.
 ghost use Rattle.std.specs.Prelude.{◌≡◌, ◌++◌, ◌∷◌, [], ◌↔◌, IfSome, IfNone, IsTrue, List, map};
 ghost use Rattle.slab.specs.Slab.{entries};
 ghost use Rattle.term_shapes.specs.declared.handles.Term.{Term};
@@ -7,7 +7,9 @@ ghost use Rattle.term_table.specs.World.{World};
 ghost use Rattle.term_table.specs.Checking.{AreLive};
 ghost use Rattle.term_collect.specs.Reach.{AreLiveTypes, IsLive, IsKept, IsReached, Leaves};
 ghost use Rattle.term_collect.specs.Marking.{Keeping};
-ghost use Rattle.yices_api.specs.State.{all_formulas, formulas, formulas_of};
+ghost use Rattle.context_stack.specs.Levels.{formulas};
+ghost use Rattle.context_stack.specs.States.{held_terms};
+ghost use Rattle.yices_api.specs.State.{terms_of_contexts, terms_of};
 ghost use Rattle.yices_api.specs.Calls.{listed, listed_terms, listed_types, placed, AllLiveRoots, IsFirstDeadRoot};
 ghost use Rattle.yices_api.specs.Told.{dead_at};
 ghost use Rattle.yices_api.specs.Steps.{Frees, StepsBy};
@@ -77,11 +79,24 @@ fn keep_roots(collection: &mut Collection<'_>, roots: &[Marked])
     }
 }
 
-/// Keeps the formulas of a context.
+/// Keeps the formulas and the core of a context.
 fn keep_context(collection: &mut Collection<'_>, context: &Context)
-    requires { (old : World) × (ts : List Term) × (us : List TypeId) × Keeping old collection.old.table.now ts us × AreLive old (formulas context.now) }
+    requires { (old : World) × (ts : List Term) × (us : List TypeId) × Keeping old collection.old.table.now ts us × AreLive old (held_terms context.now) }
     ensures same_table { collection.new.table.ghost_name ≡ collection.old.table.ghost_name }
-    ensures keeps { (old : World) (ts : List Term) (us : List TypeId) → Keeping old collection.old.table.now ts us → Keeping old collection.new.table.now (ts ++ formulas context.now) us }
+    ensures keeps { (old : World) (ts : List Term) (us : List TypeId) → Keeping old collection.old.table.now ts us → Keeping old collection.new.table.now (ts ++ held_terms context.now) us }
+{
+    keep_levels(collection, context);
+    kept_stay_live();
+    if let Some(core) = context.core() {
+        collection.keep(core);
+    }
+}
+
+/// Keeps the formulas of a context.
+fn keep_levels(collection: &mut Collection<'_>, context: &Context)
+    requires { (old : World) × (ts : List Term) × (us : List TypeId) × Keeping old collection.old.table.now ts us × AreLive old (formulas context.now.levels) }
+    ensures same_table { collection.new.table.ghost_name ≡ collection.old.table.ghost_name }
+    ensures keeps { (old : World) (ts : List Term) (us : List TypeId) → Keeping old collection.old.table.now ts us → Keeping old collection.new.table.now (ts ++ formulas context.now.levels) us }
 {
     kept_stay_live();
     for level in 0..context.levels() {
@@ -90,22 +105,22 @@ fn keep_context(collection: &mut Collection<'_>, context: &Context)
     collection.keep(context.roots(context.levels()));
 }
 
-/// Keeps the formulas of all contexts.
+/// Keeps the formulas and the cores of all contexts.
 fn keep_contexts(collection: &mut Collection<'_>, contexts: &Slab<Held>)
-    requires { (old : World) × (ts : List Term) × (us : List TypeId) × Keeping old collection.old.table.now ts us × AreLive old (all_formulas contexts.now.slots) }
+    requires { (old : World) × (ts : List Term) × (us : List TypeId) × Keeping old collection.old.table.now ts us × AreLive old (terms_of_contexts contexts.now.slots) }
     ensures same_table { collection.new.table.ghost_name ≡ collection.old.table.ghost_name }
-    ensures keeps { (old : World) (ts : List Term) (us : List TypeId) → Keeping old collection.old.table.now ts us → Keeping old collection.new.table.now (ts ++ all_formulas contexts.now.slots) us }
+    ensures keeps { (old : World) (ts : List Term) (us : List TypeId) → Keeping old collection.old.table.now ts us → Keeping old collection.new.table.now (ts ++ terms_of_contexts contexts.now.slots) us }
 {
     for (_, held) in contexts.iter() {
         keep_context(collection, &held.context);
     }
 }
 
-/// Frees what neither the listed live handles nor the formulas of contexts reach, nor what is held or named.
+/// Frees what neither the listed live handles nor the formulas and cores of contexts reach, nor what is held or named.
 fn collect(table: &mut Table, contexts: &Slab<Held>, keep_named: bool, roots: &[Marked])
     requires roots { AllLiveRoots table.old roots.now }
-    requires formulas { AreLive table.old (all_formulas contexts.now.slots) }
-    ensures { Leaves table.old table.new (IsReached table.old (IsKept table.old (listed_terms roots.now ++ all_formulas contexts.now.slots) (listed_types roots.now) keep_named)) }
+    requires formulas { AreLive table.old (terms_of_contexts contexts.now.slots) }
+    ensures { Leaves table.old table.new (IsReached table.old (IsKept table.old (listed_terms roots.now ++ terms_of_contexts contexts.now.slots) (listed_types roots.now) keep_named)) }
 {
     let mut collection = Collection::start(table);
     keep_roots(&mut collection, roots);
@@ -115,7 +130,7 @@ fn collect(table: &mut Table, contexts: &Slab<Held>, keep_named: bool, roots: &[
 
 impl Env {
     /// Frees what nothing reaches: what stays is what is reached from the permanent types and terms, from whatever is
-    /// referred to, from the listed handles, from the formulas of all contexts, and, where names are to be kept, from what
+    /// referred to, from the listed handles, from the formulas and cores of all contexts, and, where names are to be kept, from what
     /// names mean. The time is linear in what was live, in the arguments of what stays, in the formulas and in the names.
     ///
     /// # Errors
@@ -127,6 +142,7 @@ impl Env {
         if let Some(index) = first_dead(&self.table, roots) {
             return Reply::Refused(refusal(roots[index], index + 2));
         }
+        self.table.is_table();
         collect(&mut self.table, &self.contexts, keep_named, roots);
         Reply::Done
     }

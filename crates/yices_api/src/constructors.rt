@@ -12,7 +12,7 @@ use term_sketches::Operator;
 use term_table::{Table, Term, TypeId};
 
 /// The place of the first dead term, from 1 on.
-fn first_dead(table: &Table, terms: &[Term]) -> Option<usize>
+pub(crate) fn first_dead(table: &Table, terms: &[Term]) -> Option<usize>
     ensures dead { IfSome result (λ place. IsFirstDead table.now terms.now place) }
     ensures live { IfNone result (AreLive table.now terms.now) }
 {
@@ -32,6 +32,7 @@ impl Env {
         if let Some(place) = first_dead(&self.table, arguments) {
             return Reply::Refused(CallError::DeadTerm(place));
         }
+        self.table.is_table();
         match build(self.alloc, &mut self.table, operator, arguments) {
             Ok(t) => Reply::Term(t),
             Err(e) => of_build(e),
@@ -42,6 +43,7 @@ impl Env {
     pub(crate) fn new_constant(&mut self, of: TypeId) -> Reply
         ensures { Api self.old (call.NewUninterpretedTerm of) result self.new }
     {
+        self.table.is_table();
         match self.table.new_constant(of) {
             Ok(t) => Reply::Term(t),
             Err(e) => of_table(1, e),
@@ -52,6 +54,7 @@ impl Env {
     pub(crate) fn new_variable(&mut self, of: TypeId) -> Reply
         ensures { Api self.old (call.NewVariable of) result self.new }
     {
+        self.table.is_table();
         match self.table.new_variable(of) {
             Ok(t) => Reply::Term(t),
             Err(e) => of_table(1, e),

@@ -1,9 +1,10 @@
 //! The calls on contexts.
 ghost use Rattle.std.specs.Prelude.{◌≡◌, ◌<◌, ◌++◌, ◌∷◌, [], OnOk, IfErr, OnErr, IsSome, is_some, length};
-ghost use Rattle.context_stack.specs.Steps.{Asserts, Pops, IsFormula, RefusesFormula, RefusesPush};
+ghost use Rattle.term_checks.specs.Formulas.{IsFormula};
+ghost use Rattle.context_stack.specs.Steps.{Asserts, Pops, RefusesFormula, RefusesPush};
 ghost use Rattle.context_stack.specs.declared.errors.ContextError.TheVariants.{BottomLevel};
-ghost use Rattle.yices_api.specs.State.{Levels, levels_in};
-ghost use Rattle.yices_api.specs.Steps.{Alters, Api, Finds};
+ghost use Rattle.yices_api.specs.State.{context_in};
+ghost use Rattle.yices_api.specs.Steps.{Alters, Api, Finds, Relevels};
 ghost use Rattle.yices_api.specs.declared.calls.Call.TheVariants as call;
 
 use crate::env::Env;
@@ -18,8 +19,8 @@ use term_table::{Table, Term};
 const MOST_CONTEXTS: u64 = 4_294_967_296;
 
 /// Whether the context is live.
-fn is_live(contexts: &Slab<Held>, id: ContextId) -> bool
-    ensures { result ≡ is_some (levels_in contexts.now.slots id) }
+pub(crate) fn is_live(contexts: &Slab<Held>, id: ContextId) -> bool
+    ensures { result ≡ is_some (context_in contexts.now.slots id) }
 {
     match contexts.get(id.key) {
         Some(held) => held.stamp == id.stamp,
@@ -29,8 +30,8 @@ fn is_live(contexts: &Slab<Held>, id: ContextId) -> bool
 
 /// Takes all levels and formulas of a live context away.
 fn reset_in(contexts: &mut Slab<Held>, id: ContextId)
-    requires { IsSome (levels_in contexts.old.slots id) }
-    ensures { Alters (λ ls ms. ms ≡ [] ∷ []) id contexts.old.slots contexts.new.slots }
+    requires { IsSome (context_in contexts.old.slots id) }
+    ensures { Alters (Relevels (λ ls ms. ms ≡ [] ∷ [])) id contexts.old.slots contexts.new.slots }
 {
     match contexts.get_mut(id.key) {
         Some(held) => held.context.reset(),
@@ -40,9 +41,9 @@ fn reset_in(contexts: &mut Slab<Held>, id: ContextId)
 
 /// Opens a level of a live context.
 fn push_in(contexts: &mut Slab<Held>, id: ContextId) -> Result<(), ContextError>
-    requires { IsSome (levels_in contexts.old.slots id) }
-    ensures opened { OnOk result (Alters (λ ls ms. (length ls < 65537) × (ms ≡ ls ++ [] ∷ [])) id contexts.old.slots contexts.new.slots) }
-    ensures refused { IfErr result (λ e. Finds (λ ls. RefusesPush ls e) id contexts.old.slots) }
+    requires { IsSome (context_in contexts.old.slots id) }
+    ensures opened { OnOk result (Alters (Relevels (λ ls ms. (length ls < 65537) × (ms ≡ ls ++ [] ∷ []))) id contexts.old.slots contexts.new.slots) }
+    ensures refused { IfErr result (λ e. Finds (λ x. RefusesPush x.levels e) id contexts.old.slots) }
     ensures same { OnErr result (contexts.new.slots ≡ contexts.old.slots) }
 {
     match contexts.get_mut(id.key) {
@@ -53,9 +54,9 @@ fn push_in(contexts: &mut Slab<Held>, id: ContextId) -> Result<(), ContextError>
 
 /// Takes the newest level of a live context away.
 fn pop_in(contexts: &mut Slab<Held>, id: ContextId) -> Result<(), ContextError>
-    requires { IsSome (levels_in contexts.old.slots id) }
-    ensures popped { OnOk result (Alters Pops id contexts.old.slots contexts.new.slots) }
-    ensures refused { IfErr result (λ e. (e ≡ BottomLevel) × Finds (λ ls. length ls ≡ 1) id contexts.old.slots) }
+    requires { IsSome (context_in contexts.old.slots id) }
+    ensures popped { OnOk result (Alters (Relevels Pops) id contexts.old.slots contexts.new.slots) }
+    ensures refused { IfErr result (λ e. (e ≡ BottomLevel) × Finds (λ x. length x.levels ≡ 1) id contexts.old.slots) }
     ensures same { OnErr result (contexts.new.slots ≡ contexts.old.slots) }
 {
     match contexts.get_mut(id.key) {
@@ -71,8 +72,8 @@ fn assert_in(
     table: &Table,
     t: Term,
 ) -> Result<(), ContextError>
-    requires { IsSome (levels_in contexts.old.slots id) }
-    ensures asserted { OnOk result (Alters (λ ls ms. Asserts ls ms t) id contexts.old.slots contexts.new.slots) }
+    requires { IsSome (context_in contexts.old.slots id) }
+    ensures asserted { OnOk result (Alters (Relevels (λ ls ms. Asserts ls ms t)) id contexts.old.slots contexts.new.slots) }
     ensures formula { OnOk result (IsFormula table.now t) }
     ensures refused { IfErr result (λ e. RefusesFormula table.now t e) }
     ensures same { OnErr result (contexts.new.slots ≡ contexts.old.slots) }

@@ -11,6 +11,7 @@ impl Env {
     pub(crate) fn incref_term(&mut self, t: Term) -> Reply
         ensures { Api self.old (call.IncrefTerm t) result self.new }
     {
+        self.table.is_table();
         match self.table.incref(t) {
             Ok(()) => Reply::Done,
             Err(e) => of_table(1, e),
@@ -21,6 +22,7 @@ impl Env {
     pub(crate) fn decref_term(&mut self, t: Term) -> Reply
         ensures { Api self.old (call.DecrefTerm t) result self.new }
     {
+        self.table.is_table();
         match self.table.decref(t) {
             Ok(()) => Reply::Done,
             Err(e) => of_table(1, e),
@@ -31,6 +33,7 @@ impl Env {
     pub(crate) fn incref_type(&mut self, t: TypeId) -> Reply
         ensures { Api self.old (call.IncrefType t) result self.new }
     {
+        self.table.is_table();
         match self.table.incref_type(t) {
             Ok(()) => Reply::Done,
             Err(e) => of_table(1, e),
@@ -41,6 +44,7 @@ impl Env {
     pub(crate) fn decref_type(&mut self, t: TypeId) -> Reply
         ensures { Api self.old (call.DecrefType t) result self.new }
     {
+        self.table.is_table();
         match self.table.decref_type(t) {
             Ok(()) => Reply::Done,
             Err(e) => of_table(1, e),

@@ -2,7 +2,7 @@
 ghost use Rattle.std.specs.Prelude.{◌≡◌, IfOk};
 ghost use Rattle.std.specs.Option.{option_copied};
 ghost use Rattle.term_table.specs.World.{IsTable};
-ghost use Rattle.yices_api.specs.State.{State, levels_in, IsEnvironment};
+ghost use Rattle.yices_api.specs.State.{State, context_in, IsEnvironment};
 ghost use Rattle.yices_api.specs.Runs.{IsEmpty, IsWorld};
 
 use crate::handles::ContextId;
@@ -59,7 +59,7 @@ impl Env {
 
     /// The context, where its handle is live.
     pub fn context(&self, id: ContextId) -> Option<&Context>
-        ensures { option_copied result ≡ levels_in self.now.contexts id }
+        ensures { option_copied result ≡ context_in self.now.contexts id }
     {
         match self.contexts.get(id.key) {
             Some(held) => held.under(id.stamp),
@@ -67,7 +67,7 @@ impl Env {
         }
     }
 
-    /// What always holds: the table is one, and each formula of a live context is live in it.
+    /// What always holds: the table is one, and what each live context holds is formulas of it.
     pub fn is_world(&self)
         ensures { IsWorld self.now }
     {

@@ -1,7 +1,7 @@
 //! What a key holds.
 ghost use Rattle.std.specs.Prelude.{◌≡◌, Some};
 ghost use Rattle.std.specs.Option.{option_copied};
-ghost use Rattle.yices_api.specs.State.{levels_under};
+ghost use Rattle.yices_api.specs.State.{context_under};
 
 use context_stack::Context;
 
@@ -15,7 +15,7 @@ pub struct Held {
 impl Held {
     /// The context, where that is the stamp of its handle.
     pub(crate) fn under(&self, stamp: u64) -> Option<&Context>
-        ensures { option_copied result ≡ levels_under stamp (Some self.now) }
+        ensures { option_copied result ≡ context_under stamp (Some self.now) }
     {
         if self.stamp == stamp {
             Some(&self.context)

@@ -11,6 +11,7 @@ impl Env {
     pub(crate) fn set_term_name(&mut self, name: &str, t: Term) -> Reply
         ensures { Api self.old (call.SetTermName name.now t) result self.new }
     {
+        self.table.is_table();
         match self.table.set_name(name, t) {
             Ok(()) => Reply::Done,
             Err(e) => of_table(2, e),
@@ -21,6 +22,7 @@ impl Env {
     pub(crate) fn set_type_name(&mut self, name: &str, t: TypeId) -> Reply
         ensures { Api self.old (call.SetTypeName name.now t) result self.new }
     {
+        self.table.is_table();
         match self.table.set_type_name(name, t) {
             Ok(()) => Reply::Done,
             Err(e) => of_table(2, e),
@@ -71,6 +73,7 @@ impl Env {
     pub(crate) fn remove_term_name(&mut self, name: &str) -> Reply
         ensures { Api self.old (call.RemoveTermName name.now) result self.new }
     {
+        self.table.is_table();
         Reply::Flag(self.table.remove_name(name))
     }
 
@@ -78,6 +81,7 @@ impl Env {
     pub(crate) fn remove_type_name(&mut self, name: &str) -> Reply
         ensures { Api self.old (call.RemoveTypeName name.now) result self.new }
     {
+        self.table.is_table();
         Reply::Flag(self.table.remove_type_name(name))
     }
 }

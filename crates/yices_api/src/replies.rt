@@ -1,12 +1,12 @@
 //! The replies to calls, and why calls are refused.
 ghost use Rattle.std.specs.Prelude.{◌≡◌, ◌⊎◌};
-ghost use Rattle.yices_api.specs.Told.{told_build, told_context, told_table, term_or_nothing, type_or_nothing};
+ghost use Rattle.yices_api.specs.Told.{told_build, told_check, told_context, told_table, term_or_nothing, type_or_nothing};
 
 use crate::handles::ContextId;
-use context_stack::{ContextError, Status};
+use context_stack::{Checked, ContextError, Status};
 use std::alloc::Global;
 use term_build::BuildError;
-use term_table::{TableError, Term, TypeId, Wanted};
+use term_table::{TableError, Term, Terms, TypeId, Wanted};
 use y_io::Text;
 
 /// Why a call was refused. Places count the arguments of the call from 1 on, each member of a list by itself.
@@ -59,10 +59,14 @@ pub enum CallError {
     TooLong,
     /// No slot is left.
     TableFull,
+    /// The newest call that changed the context was no check with assumptions that found some to blame.
+    NoCore,
+    /// A term below the formulas is no truth value. Such a check isn't built yet.
+    NotBuilt,
 }
 
 /// The reply to a call.
-#[derive(Debug, PartialEq, Eq, Drop)]
+#[derive(Drop)]
 pub enum Reply {
     /// A type.
     TypeId(TypeId),
@@ -70,6 +74,8 @@ pub enum Reply {
     Term(Term),
     /// A context.
     Context(ContextId),
+    /// A list of terms.
+    Terms(Terms),
     /// It was done.
     Done,
     /// There is none.
@@ -140,6 +146,24 @@ pub(crate) fn of_context(place: usize, e: ContextError) -> Reply
         ContextError::BottomLevel => Reply::Refused(CallError::BottomLevel),
         ContextError::NoMemory => Reply::NoMemory,
     }
+}
+
+/// The verdict of a check, or why there is none.
+fn verdict_of(found: &Checked) -> Reply
+    ensures { result ≡ told_check found.now }
+{
+    match found {
+        Checked::NotBuilt => Reply::Refused(CallError::NotBuilt),
+        Checked::NoMemory => Reply::NoMemory,
+        Checked::Sat(_) | Checked::Unsat | Checked::Unknown(_) => Reply::Status(found.status()),
+    }
+}
+
+/// The answer of a check, of which only the verdict is told.
+pub(crate) fn of_check(found: Checked) -> Reply
+    ensures { result ≡ told_check found }
+{
+    verdict_of(&found)
 }
 
 /// A copy of the text, or want of memory.

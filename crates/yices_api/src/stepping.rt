@@ -67,5 +67,10 @@ fn answer(env: &mut Env, call: &Call) -> Reply
         Call::Pop(id) => env.pop(*id),
         Call::ContextStatus(id) => env.context_status(*id),
         Call::AssertFormula(id, t) => env.assert_formula(*id, *t),
+        Call::CheckContext(id, turns) => env.check_context(*id, *turns),
+        Call::CheckContextWithAssumptions(id, turns, assumed) => {
+            env.check_context_with_assumptions(*id, *turns, assumed.as_slice())
+        }
+        Call::GetUnsatCore(id) => env.unsat_core(*id),
     }
 }

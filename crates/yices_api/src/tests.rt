@@ -48,6 +48,9 @@ enum Word {
     Pop,
     Status,
     Assert,
+    Check,
+    Assume,
+    Core,
 }
 
 // A reply: a handle that no earlier row has, the reply of that row, or what is told.
@@ -55,9 +58,10 @@ enum Word {
 enum Want {
     New,
     As(usize),
+    Terms(&'static [usize]),
     Done,
     Nothing,
-    Idle,
+    Status(Status),
     Flag(bool),
     Number(usize),
     Text(&'static str),
@@ -273,7 +277,7 @@ const CONTEXTS_AND_COLLECTIONS: [Row; 40] = [
         "",
         Want::Refused(CallError::DeadContext(1)),
     ),
-    (Word::Status, &[8], "", Want::Idle),
+    (Word::Status, &[8], "", Want::Status(Status::Idle)),
     // Formulas stay, then listed handles, then names where they count.
     (Word::Collect(false), &[], "", Want::Done),
     (Word::NumTerms, &[], "", Want::Number(7)),
@@ -330,6 +334,100 @@ const CONTEXTS_AND_COLLECTIONS: [Row; 40] = [
     (Word::Constant, &[0], "", Want::New),
 ];
 
+const CHECKS: [Row; 52] = [
+    (Word::BoolType, &[], "", Want::New),
+    (Word::Constant, &[0], "", Want::New),
+    (Word::Constant, &[0], "", Want::New),
+    (Word::Build(Operator::Or), &[1, 2], "", Want::New),
+    (Word::Build(Operator::Not), &[1], "", Want::New),
+    (Word::Build(Operator::Not), &[2], "", Want::New),
+    (Word::Variable, &[0], "", Want::New),
+    (Word::NewContext, &[], "", Want::New),
+    (Word::NewContext, &[], "", Want::New),
+    (Word::NewContext, &[], "", Want::New),
+    // No formula at all can be true, and one that is asserted makes the status unknown again.
+    (Word::Check, &[7], "", Want::Status(Status::Sat)),
+    (Word::Assert, &[7, 3], "", Want::Done),
+    (Word::Status, &[7], "", Want::Status(Status::Idle)),
+    // The assumptions to blame, each once.
+    (Word::Assume, &[7, 4, 5, 4], "", Want::Status(Status::Unsat)),
+    (Word::Status, &[7], "", Want::Status(Status::Unsat)),
+    (Word::Core, &[7], "", Want::Terms(&[4, 5])),
+    // A collection keeps the formula and the core, and frees the variable.
+    (Word::Collect(false), &[], "", Want::Done),
+    (Word::NumTerms, &[], "", Want::Number(7)),
+    (Word::Core, &[7], "", Want::Terms(&[4, 5])),
+    (Word::Assume, &[7, 4], "", Want::Status(Status::Sat)),
+    (Word::Core, &[7], "", Want::Refused(CallError::NoCore)),
+    // Now nothing keeps the negations. Dead handles are told before all else, with the limit as a place.
+    (Word::Collect(false), &[], "", Want::Done),
+    (Word::NumTerms, &[], "", Want::Number(5)),
+    (
+        Word::Assume,
+        &[7, 1, 4],
+        "",
+        Want::Refused(CallError::DeadTerm(4)),
+    ),
+    (
+        Word::Assume,
+        &[DEAD, 4],
+        "",
+        Want::Refused(CallError::DeadContext(1)),
+    ),
+    (
+        Word::Check,
+        &[DEAD],
+        "",
+        Want::Refused(CallError::DeadContext(1)),
+    ),
+    (
+        Word::Core,
+        &[DEAD],
+        "",
+        Want::Refused(CallError::DeadContext(1)),
+    ),
+    // Assumptions that are no formulas, and the status stays.
+    (Word::Variable, &[0], "", Want::New),
+    (Word::Constant, &[REAL], "", Want::New),
+    (Word::Constant, &[REAL], "", Want::New),
+    (
+        Word::Assume,
+        &[7, 28, 27],
+        "",
+        Want::Refused(CallError::NotBool(1)),
+    ),
+    (Word::Assume, &[7, 1, 27], "", Want::HasVariable(27)),
+    (Word::Status, &[7], "", Want::Status(Status::Sat)),
+    // Of formulas on a level that can't be true, a check without assumptions keeps no core.
+    (Word::Build(Operator::Not), &[3], "", Want::New),
+    (Word::Push, &[7], "", Want::Done),
+    (Word::Assert, &[7, 33], "", Want::Done),
+    (Word::Check, &[7], "", Want::Status(Status::Unsat)),
+    (Word::Core, &[7], "", Want::Refused(CallError::NoCore)),
+    // They are the core of no assumptions; another context knows nothing of them.
+    (Word::Assume, &[7, 1], "", Want::Status(Status::Unsat)),
+    (Word::Core, &[7], "", Want::Terms(&[])),
+    (Word::Assume, &[8, 33], "", Want::Status(Status::Sat)),
+    (Word::Status, &[7], "", Want::Status(Status::Unsat)),
+    (Word::Status, &[9], "", Want::Status(Status::Idle)),
+    // A popped level doesn't count, also where a collection freed its formula.
+    (Word::Pop, &[7], "", Want::Done),
+    (Word::Status, &[7], "", Want::Status(Status::Idle)),
+    (Word::Build(Operator::Eq), &[28, 29], "", Want::New),
+    (Word::Assert, &[9, 45], "", Want::Done),
+    (Word::Collect(false), &[], "", Want::Done),
+    (Word::Check, &[7], "", Want::Status(Status::Sat)),
+    (
+        Word::Build(Operator::And),
+        &[1, 33],
+        "",
+        Want::Refused(CallError::DeadTerm(2)),
+    ),
+    // Values other than truth values aren't decided yet.
+    (Word::Check, &[9], "", Want::Refused(CallError::NotBuilt)),
+    (Word::Status, &[9], "", Want::Status(Status::Idle)),
+];
+
 // The row of the handle at that place, from 0 on.
 fn row_at(rows: &[usize], place: usize) -> usize {
     match rows.get(place) {
@@ -373,6 +471,17 @@ fn terms(alloc: Global, replies: &[Reply], rows: &[usize]) -> Result<Terms, Allo
     let mut list = Terms::new(alloc);
     for row in rows {
         list.push(term(replies, *row))?;
+    }
+    Ok(list)
+}
+
+// The terms of the rows behind the first.
+fn others(alloc: Global, replies: &[Reply], rows: &[usize]) -> Result<Terms, AllocError> {
+    let mut list = Terms::new(alloc);
+    for (at, row) in rows.iter().enumerate() {
+        if at > 0 {
+            list.push(term(replies, *row))?;
+        }
     }
     Ok(list)
 }
@@ -456,6 +565,11 @@ fn call_of(
         Word::Pop => Call::Pop(id),
         Word::Status => Call::ContextStatus(id),
         Word::Assert => Call::AssertFormula(id, term(replies, row_at(rows, 1))),
+        Word::Check => Call::CheckContext(id, Turns::Whole),
+        Word::Assume => {
+            Call::CheckContextWithAssumptions(id, Turns::Whole, others(alloc, replies, rows)?)
+        }
+        Word::Core => Call::GetUnsatCore(id),
     })
 }
 
@@ -466,13 +580,90 @@ fn is_handle(reply: &Reply) -> bool {
     }
 }
 
+fn is_same_handle(a: &Reply, b: &Reply) -> bool {
+    match a {
+        Reply::TypeId(t) => {
+            match b {
+                Reply::TypeId(u) => *t == *u,
+                _ => false,
+            }
+        }
+        Reply::Term(t) => {
+            match b {
+                Reply::Term(u) => *t == *u,
+                _ => false,
+            }
+        }
+        Reply::Context(c) => {
+            match b {
+                Reply::Context(d) => *c == *d,
+                _ => false,
+            }
+        }
+        _ => false,
+    }
+}
+
 fn has(replies: &[Reply], reply: &Reply) -> bool {
     for earlier in replies {
-        if *earlier == *reply {
+        if is_same_handle(earlier, reply) {
             return true;
         }
     }
     false
+}
+
+fn are_terms_of(replies: &[Reply], rows: &[usize], found: &[Term]) -> bool {
+    if rows.len() != found.len() {
+        return false;
+    }
+    for (at, row) in rows.iter().enumerate() {
+        if found[at] != term(replies, *row) {
+            return false;
+        }
+    }
+    true
+}
+
+// Whether the call was refused, and so.
+fn is_refused(reply: &Reply, why: CallError) -> bool {
+    match reply {
+        Reply::Refused(e) => *e == why,
+        _ => false,
+    }
+}
+
+// Whether that was told, where it is no handle and no refusal.
+fn is_told(reply: &Reply, want: Want) -> bool {
+    match want {
+        Want::Done => matches!(reply, Reply::Done),
+        Want::Nothing => matches!(reply, Reply::Nothing),
+        Want::Status(status) => {
+            match reply {
+                Reply::Status(found) => status == *found,
+                _ => false,
+            }
+        }
+        Want::Flag(flag) => {
+            match reply {
+                Reply::Flag(found) => flag == *found,
+                _ => false,
+            }
+        }
+        Want::Number(number) => {
+            match reply {
+                Reply::Number(found) => number == *found,
+                _ => false,
+            }
+        }
+        Want::Text(wanted) => {
+            match reply {
+                Reply::Text(text) => text.as_str() == wanted,
+                _ => false,
+            }
+        }
+        _ => false,
+    }
 }
 
 fn is_wanted(replies: &[Reply], reply: &Reply, want: Want) -> bool {
@@ -480,33 +671,29 @@ fn is_wanted(replies: &[Reply], reply: &Reply, want: Want) -> bool {
         Want::New => is_handle(reply) && !has(replies, reply),
         Want::As(row) => {
             match replies.get(row) {
-                Some(earlier) => *earlier == *reply,
+                Some(earlier) => is_same_handle(earlier, reply),
                 None => false,
             }
         }
-        Want::Done => *reply == Reply::Done,
-        Want::Nothing => *reply == Reply::Nothing,
-        Want::Idle => *reply == Reply::Status(Status::Idle),
-        Want::Flag(flag) => *reply == Reply::Flag(flag),
-        Want::Number(number) => *reply == Reply::Number(number),
-        Want::Text(wanted) => {
+        Want::Terms(rows) => {
             match reply {
-                Reply::Text(text) => text.as_str() == wanted,
+                Reply::Terms(found) => are_terms_of(replies, rows, found.as_slice()),
                 _ => false,
             }
         }
         Want::Wrong(place, wanted, found) => {
-            *reply
-                == Reply::Refused(CallError::WrongType {
+            is_refused(
+                reply,
+                CallError::WrongType {
                     place,
                     wanted,
                     found,
-                })
+                },
+            )
         }
-        Want::HasVariable(row) => {
-            *reply == Reply::Refused(CallError::HasVariable(term(replies, row)))
-        }
-        Want::Refused(e) => *reply == Reply::Refused(e),
+        Want::HasVariable(row) => is_refused(reply, CallError::HasVariable(term(replies, row))),
+        Want::Refused(e) => is_refused(reply, e),
+        _ => is_told(reply, want),
     }
 }
 
@@ -522,10 +709,7 @@ fn run<R: Abort + AllocGlobal>(rt: &R, rows: &[Row]) -> Result<(), Fail> {
     let mut replies: Vec<Reply> = Vec::new(alloc);
     for (at, row) in rows.iter().enumerate() {
         let reply = answer(alloc, &mut env, replies.as_slice(), row)?;
-        assert!(rt;
-            is_wanted(replies.as_slice(), &reply, row.3),
-            "row {at}: {reply:?}"
-        );
+        assert!(rt; is_wanted(replies.as_slice(), &reply, row.3), "row {at}");
         replies.push(reply)?;
     }
     Ok(())
@@ -544,4 +728,9 @@ fn names_and_counts(rt: HostRuntime) -> Result<(), Fail> {
 #[test]
 fn contexts_and_collections(rt: HostRuntime) -> Result<(), Fail> {
     run(&rt, &CONTEXTS_AND_COLLECTIONS)
+}
+
+#[test]
+fn checks(rt: HostRuntime) -> Result<(), Fail> {
+    run(&rt, &CHECKS)
 }

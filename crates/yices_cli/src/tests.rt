@@ -6,7 +6,7 @@ mod faults;
 mod scripts;
 
 use crate::run::run;
-use crate::tests::calls::CALLS;
+use crate::tests::calls::{CALLS, CHECKS};
 use crate::tests::faults::FAULTS;
 use crate::tests::scripts::SCRIPTS;
 use std::alloc::{AllocError, Global};
@@ -64,7 +64,7 @@ fn expect_run<R: Abort + AllocGlobal>(
             inner: FailingSource::new(memory, FileName::Input, stop),
             most,
         };
-        let mut out = MemorySink::new(rt.alloc(), 300)?;
+        let mut out = MemorySink::new(rt.alloc(), 1000)?;
         let mut errors = MemorySink::new(rt.alloc(), 300)?;
         let exit = run(rt.alloc(), words, &mut source, &mut out, &mut errors);
         assert_eq!(rt;
@@ -113,6 +113,11 @@ fn scripts_have_their_replies(rt: HostRuntime) -> Result<(), Fail> {
 #[test]
 fn calls_have_their_replies(rt: HostRuntime) -> Result<(), Fail> {
     expect_rows(&rt, &["--calls"], &CALLS)
+}
+
+#[test]
+fn checks_have_their_replies(rt: HostRuntime) -> Result<(), Fail> {
+    expect_rows(&rt, &["--calls"], &CHECKS)
 }
 
 /// A text, the place where it breaks, its status, its replies and its line on errors.

@@ -276,7 +276,7 @@ pub const CALLS: [Row; 84] = [
     // Calls that aren't built.
     ("real_type\n", 20, "", "1:1: refused 21 NotBuilt"),
     (
-        "num_terms\n  check_context #1 whole",
+        "num_terms\n  get_model #1",
         20,
         "#1 2\n",
         "2:3: refused 21 NotBuilt",
@@ -284,4 +284,26 @@ pub const CALLS: [Row; 84] = [
     ("bv_type 8 8 8(\n", 20, "", "1:1: refused 21 NotBuilt"),
     ("get_value\u{1}\n", 20, "", "1:1: refused 21 NotBuilt"),
     ("function_type", 20, "", "1:1: refused 21 NotBuilt"),
+];
+
+/// Checks: a limit of turns, a core, a status; whatever was popped or collected.
+pub const CHECKS: [Row; 3] = [
+    (
+        "bool_type\nnew_uninterpreted_term #1\nnew_uninterpreted_term #1\nnew_uninterpreted_term #1\nnew_uninterpreted_term #1\nnew_uninterpreted_term #1\nnew_uninterpreted_term #1\nor #2 #3\nor #4 #5\nor #6 #7\nnot #2\nnot #3\nnot #4\nnot #5\nnot #6\nnot #7\nor #11 #13\nor #11 #15\nor #13 #15\nor #12 #14\nor #12 #16\nor #14 #16\nnew_context\nassert_formula #23 #8\nassert_formula #23 #9\nassert_formula #23 #10\nassert_formula #23 #17\nassert_formula #23 #18\nassert_formula #23 #19\nassert_formula #23 #20\nassert_formula #23 #21\nassert_formula #23 #22\ncheck_context #23 0\ncontext_status #23\ncheck_context #23 whole\nget_unsat_core #23\n",
+        0,
+        "#1 type bool\n#2 term\n#3 term\n#4 term\n#5 term\n#6 term\n#7 term\n#8 term\n#9 term\n#10 term\n#11 term\n#12 term\n#13 term\n#14 term\n#15 term\n#16 term\n#17 term\n#18 term\n#19 term\n#20 term\n#21 term\n#22 term\n#23 context\n#24 ok\n#25 ok\n#26 ok\n#27 ok\n#28 ok\n#29 ok\n#30 ok\n#31 ok\n#32 ok\n#33 unknown\n#34 unknown\n#35 unsat\n#36 refused NoCore\n",
+        "",
+    ),
+    (
+        "bool_type\nnew_uninterpreted_term #1\nnew_uninterpreted_term #1\nnew_uninterpreted_term #1\nand #2 #4\nnot #5\nnew_context\nassert_formula #7 #6\ncheck_context_with_assumptions #7 whole #2 #3 #4 #2\nget_unsat_core #7\npp_term #10.1\npp_term #10.2\npp_term #10.3\nnot #10\n",
+        0,
+        "#1 type bool\n#2 term\n#3 term\n#4 term\n#5 term\n#6 term\n#7 context\n#8 ok\n#9 unsat\n#10 list 2\n#11 c!0\n#12 c!2\n#13 refused NoResult 1\n#14 refused NoResult 1\n",
+        "",
+    ),
+    (
+        "bool_type\nnew_uninterpreted_term #1\nnot #2\nnew_context\nassert_formula #4 #2\ncheck_context #4 whole\npush #4\nassert_formula #4 #3\ncheck_context #4 18446744073709551615\npop #4\ncontext_status #4\ncheck_context_with_assumptions #4 00 #3\nget_unsat_core #4\ngarbage_collect false\npp_term #13.1\ncheck_context_with_assumptions #4 whole #3 #1\ncheck_context #4\n",
+        17,
+        "#1 type bool\n#2 term\n#3 term\n#4 context\n#5 ok\n#6 sat\n#7 ok\n#8 ok\n#9 unsat\n#10 ok\n#11 idle\n#12 unsat\n#13 list 1\n#14 ok\n#15 (not c!0)\n#16 refused WrongKind 4\n",
+        "17:17: syntax Unexpected",
+    ),
 ];

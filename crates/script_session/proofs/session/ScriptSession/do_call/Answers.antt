@@ -12,8 +12,8 @@ returns-in_err-tell-in-Ok-clause-after c =
 
 pub returns-in-Ok-clause-done : goal.returns-in-Ok-clause-done
 returns-in-Ok-clause-done c =
-    told_and_kept c.args.self.now c.self.inside.env c.step-reply.new.env c.self.inside.given.items c.tell.new.self c.args.call.now c.step-reply.result _ c.deref.result.now _ c.handle_given.result
-    c.self.view_is c.step-reply.ensures.step c.step-reply.ensures.world c.in-Ok.ensures.text c.in-Ok.ensures.fits c.deref.ensures c.in_ok-tell-in-Ok.ensures.told c.handle_given.ensures c.in_ok-tell-in-Ok.ensures.ok
+    told_and_kept c.args.self.now c.self.inside.env c.step-reply.new.env c.self.inside.given.items c.tell.new.self c.args.call.now c.step-reply.result _ c.deref.result.now _ c.kept_of.result
+    c.self.view_is c.step-reply.ensures.step c.step-reply.ensures.world c.in-Ok.ensures.text c.in-Ok.ensures.fits c.deref.ensures c.in_ok-tell-in-Ok.ensures.told c.kept_of.ensures c.in_ok-tell-in-Ok.ensures.ok
 
 pub returns-in-Err-TooLong-clause-stopped : goal.returns-in-Err-TooLong-clause-stopped
 returns-in-Err-TooLong-clause-stopped c =
@@ -22,4 +22,8 @@ returns-in-Err-TooLong-clause-stopped c =
 
 pub returns-clause-after : goal.returns-clause-after
 returns-clause-after c =
+    done_without_memory c.args.self.now c.self.inside.env c.step-reply.new.env c.self.inside.given.items _ c.args.call.now c.step-reply.result c.self.view_is c.step-reply.ensures.step c.step-reply.ensures.world refl
+
+pub returns-in-Err-TooLong-clause-after : goal.returns-in-Err-TooLong-clause-after
+returns-in-Err-TooLong-clause-after c =
     done_without_memory c.args.self.now c.self.inside.env c.step-reply.new.env c.self.inside.given.items _ c.args.call.now c.step-reply.result c.self.view_is c.step-reply.ensures.step c.step-reply.ensures.world refl

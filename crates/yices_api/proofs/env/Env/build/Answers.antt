@@ -15,7 +15,7 @@ use Rattle.yices_api.proofs.env.Env.build.Goals.{in-Ok, in-Err}
 
 pub invariant_of-self : goal.invariant_of-self
 invariant_of-self c =
-    extended_environment c.self.inside.table c.build.new.table c.self.inside.contexts.slots c.self.inside.made c.self.invariant
+    extended_environment c.self.inside.table c.build.new.table c.self.inside.contexts.slots c.self.inside.made c.is_table.ensures c.self.invariant
     (most_extend (4 + length c.args.arguments.now) c.self.inside.table c.build.new.table c.build.ensures.grown)
 
 pub returns-in-Some : goal.returns-in-Some

@@ -18,7 +18,7 @@ use Rattle.yices_api.proofs.env.Env.decref_term.Goals.{in-Ok, in-Err}
 
 pub invariant_of-self : goal.invariant_of-self
 invariant_of-self c =
-    extended_environment c.self.inside.table c.decref.new.self c.self.inside.contexts.slots c.self.inside.made c.self.invariant
+    extended_environment c.self.inside.table c.decref.new.self c.self.inside.contexts.slots c.self.inside.made c.is_table.ensures c.self.invariant
     (done_extends c.decref.result (CountsDown c.self.inside.table c.decref.new.self c.args.t) c.self.inside.table c.decref.new.self c.decref.ensures.counted c.decref.ensures.same (down_extends c.args.t c.self.inside.table c.decref.new.self))
 
 pub returns : goal.returns

@@ -7,12 +7,19 @@ use Rattle.yices_api.specs.State.{State}
 use Rattle.yices_api.specs.Calls.{of_type}
 use Rattle.yices_api.specs.Told.{told_table}
 use Rattle.yices_api.specs.Steps.{Api}
-use Rattle.yices_api.proofs.Stamps.{state}
+use Rattle.yices_api.proofs.Stamps.{state, extended_environment}
 use Rattle.term_table.specs.World.{World}
 use Rattle.term_table.specs.Changes.{CountsTypeDown, type_count_at}
+use Rattle.yices_api.proofs.Lasting.{type_down_extends}
+use Rattle.yices_api.proofs.Outcomes.{done_extends}
 use Rattle.yices_api.proofs.Calling.{arrive, counted, type_down_refused}
 use Rattle.yices_api.proofs.env.Env.decref_type.Goals as goal
 use Rattle.yices_api.proofs.env.Env.decref_type.Goals.{in-Ok, in-Err}
+
+pub invariant_of-self : goal.invariant_of-self
+invariant_of-self c =
+    extended_environment c.self.inside.table c.decref_type.new.self c.self.inside.contexts.slots c.self.inside.made c.is_table.ensures c.self.invariant
+    (done_extends c.decref_type.result (CountsTypeDown c.self.inside.table c.decref_type.new.self c.args.t) c.self.inside.table c.decref_type.new.self c.decref_type.ensures.counted c.decref_type.ensures.same (type_down_extends c.args.t c.self.inside.table c.decref_type.new.self))
 
 pub returns : goal.returns
 returns c =

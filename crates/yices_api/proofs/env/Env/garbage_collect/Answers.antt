@@ -8,7 +8,7 @@ use Rattle.yices_api.specs.Steps.{Frees, StepsBy}
 use Rattle.yices_api.proofs.Stamps.{state}
 use Rattle.yices_api.proofs.Dead.{roots_live, roots_refused}
 use Rattle.yices_api.proofs.Calling.{arrive, stay}
-use Rattle.yices_api.proofs.Rooting.{all_live_formulas, collected_environment, get_to, got}
+use Rattle.yices_api.proofs.Rooting.{all_live_terms, collected_environment, get_to, got}
 use Rattle.yices_api.proofs.env.Env.garbage_collect.Goals as goal
 
 pub returns-in-Some : goal.returns-in-Some
@@ -21,11 +21,11 @@ returns-in-Some c =
     c.self.view_is (ap reply.Refused (sym c.refusal.ensures)) c.self.view_is
 
 pub collect-requires-clause-formulas : goal.collect-requires-clause-formulas
-collect-requires-clause-formulas c = all_live_formulas c.self.inside.table c.self.inside.contexts.slots c.self.inside.made c.self.invariant
+collect-requires-clause-formulas c = all_live_terms c.self.inside.table c.self.inside.contexts.slots c.self.inside.made c.self.invariant
 
 pub invariant_of-self : goal.invariant_of-self
 invariant_of-self c =
-    collected_environment c.self.inside.table c.collect.new.table c.self.inside.contexts.slots c.self.inside.made (listed_terms c.args.roots.now) (listed_types c.args.roots.now) c.args.keep_named c.self.invariant c.collect.ensures
+    collected_environment c.self.inside.table c.collect.new.table c.self.inside.contexts.slots c.self.inside.made (listed_terms c.args.roots.now) (listed_types c.args.roots.now) c.args.keep_named c.is_table.ensures c.self.invariant c.collect.ensures
 
 pub returns : goal.returns
 returns c =

@@ -18,7 +18,7 @@ use Rattle.yices_api.proofs.env.Env.incref_term.Goals.{in-Ok, in-Err}
 
 pub invariant_of-self : goal.invariant_of-self
 invariant_of-self c =
-    extended_environment c.self.inside.table c.incref.new.self c.self.inside.contexts.slots c.self.inside.made c.self.invariant
+    extended_environment c.self.inside.table c.incref.new.self c.self.inside.contexts.slots c.self.inside.made c.is_table.ensures c.self.invariant
     (done_extends c.incref.result (CountsUp c.self.inside.table c.incref.new.self c.args.t) c.self.inside.table c.incref.new.self c.incref.ensures.counted c.incref.ensures.same (up_extends c.args.t c.self.inside.table c.incref.new.self))
 
 pub returns : goal.returns

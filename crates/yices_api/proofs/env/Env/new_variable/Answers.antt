@@ -17,7 +17,7 @@ use Rattle.yices_api.proofs.env.Env.new_variable.Goals.{in-Ok, in-Err}
 
 pub invariant_of-self : goal.invariant_of-self
 invariant_of-self c =
-    extended_environment c.self.inside.table c.new_variable.new.self c.self.inside.contexts.slots c.self.inside.made c.self.invariant
+    extended_environment c.self.inside.table c.new_variable.new.self c.self.inside.contexts.slots c.self.inside.made c.is_table.ensures c.self.invariant
     (made_extends c.new_variable.result (λ t. MakesVariable c.self.inside.table c.new_variable.new.self c.args.of t) c.self.inside.table c.new_variable.new.self c.new_variable.ensures.made c.new_variable.ensures.same (λ t h. variable_extends c.self.inside.table c.new_variable.new.self c.args.of t h))
 
 pub returns : goal.returns

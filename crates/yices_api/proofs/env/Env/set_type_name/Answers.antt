@@ -1,4 +1,4 @@
-use Rattle.std.proofs.Common.{◌∙◌, sym, ap, refl}
+use Rattle.std.proofs.Common.{◌≡◌, ◌∙◌, sym, ap, refl}
 use Rattle.yices_api.specs.declared.calls.Call.TheVariants as call
 use Rattle.yices_api.specs.declared.replies.Reply.{Reply}
 use Rattle.yices_api.specs.declared.replies.Reply.TheVariants as reply
@@ -6,11 +6,18 @@ use Rattle.yices_api.specs.State.{State}
 use Rattle.yices_api.specs.Calls.{of_type}
 use Rattle.yices_api.specs.Told.{told_table}
 use Rattle.yices_api.specs.Steps.{Api}
-use Rattle.yices_api.proofs.Stamps.{state}
+use Rattle.yices_api.proofs.Stamps.{state, extended_environment}
+use Rattle.yices_api.proofs.Tables.{replaced_extends}
+use Rattle.yices_api.proofs.Outcomes.{done_extends}
 use Rattle.term_table.specs.Naming.{type_named}
 use Rattle.yices_api.proofs.Calling.{arrive, named, type_unnamed}
 use Rattle.yices_api.proofs.env.Env.set_type_name.Goals as goal
 use Rattle.yices_api.proofs.env.Env.set_type_name.Goals.{in-Ok, in-Err}
+
+pub invariant_of-self : goal.invariant_of-self
+invariant_of-self c =
+    extended_environment c.self.inside.table c.set_type_name.new.self c.self.inside.contexts.slots c.self.inside.made c.is_table.ensures c.self.invariant
+    (done_extends c.set_type_name.result (c.set_type_name.new.self ≡ type_named c.self.inside.table c.args.name.now c.args.t) c.self.inside.table c.set_type_name.new.self c.set_type_name.ensures.named c.set_type_name.ensures.same (λ e. replaced_extends c.self.inside.table (type_named c.self.inside.table c.args.name.now c.args.t) c.set_type_name.new.self e refl refl))
 
 pub returns : goal.returns
 returns c =

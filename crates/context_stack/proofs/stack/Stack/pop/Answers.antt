@@ -2,7 +2,7 @@ use Rattle.std.proofs.Common.{◌≡◌, ap, length, subst, refl, reverse, arith
 use Rattle.context_stack.specs.Steps.{Pops}
 use Rattle.context_stack.specs.Levels.{levels_in}
 use Rattle.context_stack.proofs.Stacks.{popped, popped_stack, level_count}
-use Rattle.context_stack.proofs.context.Context.pop.Goals as goal
+use Rattle.context_stack.proofs.stack.Stack.pop.Goals as goal
 
 pub invariant_of-self : goal.invariant_of-self
 invariant_of-self c =

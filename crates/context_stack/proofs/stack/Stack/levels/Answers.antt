@@ -1,6 +1,6 @@
 use Rattle.std.proofs.Common.{ap, length, arith}
 use Rattle.context_stack.proofs.Stacks.{level_count}
-use Rattle.context_stack.proofs.context.Context.levels.Goals as goal
+use Rattle.context_stack.proofs.stack.Stack.levels.Goals as goal
 
 pub returns : goal.returns
 returns c =

@@ -1,7 +1,7 @@
 use Rattle.std.proofs.Common.{◌≡◌, ◌∙◌, ◌∷◌, Some, ap, sym, subst, length, get_or, arith}
 use Rattle.std.specs.Prelude.{slice_get, slice_range}
 use Rattle.context_stack.proofs.Stacks.{level_count, level_by_marks, IsLevel}
-use Rattle.context_stack.proofs.context.Context.roots.Goals as goal
+use Rattle.context_stack.proofs.stack.Stack.roots.Goals as goal
 
 pub begin_of-from-requires : goal.begin_of-from-requires
 begin_of-from-requires c =

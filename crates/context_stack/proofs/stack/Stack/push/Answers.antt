@@ -2,7 +2,7 @@ use Rattle.std.proofs.Common.{◌≡◌, ◌∙◌, ◌++◌, ◌∷◌, [], ℕ
 use Rattle.std.proofs.lemmas.Result.{err_from_is_err_and}
 use Rattle.term_shapes.specs.declared.handles.Term.{Term}
 use Rattle.context_stack.proofs.Stacks.{pushed, pushed_stack, level_count}
-use Rattle.context_stack.proofs.context.Context.push.Goals as goal
+use Rattle.context_stack.proofs.stack.Stack.push.Goals as goal
 
 pub returns-then-len-ge-MOST_LEVELS-clause-refused : goal.returns-then-len-ge-MOST_LEVELS-clause-refused
 returns-then-len-ge-MOST_LEVELS-clause-refused c =
