@@ -111,7 +111,7 @@ pub added_shape : (old new : World) (t : Term) (s : Shape) → AddsShape old new
 added_shape old new t s (of, is, inl e) = subst (λ w. HasShape w t s) (sym e.0) e.1
 added_shape old new t s (of, is, inr adds) = ap (option_map (λ (z : Node). z.shape)) (adds_here old.terms new.terms t.slot t.stamp (record { shape = s; of = of }) adds.added)
 
-shape_lives : (w : World) (t : Term) (s : Shape) → HasShape w t s → IsSome (node_at w t)
+pub shape_lives : (w : World) (t : Term) (s : Shape) → HasShape w t s → IsSome (node_at w t)
 shape_lives w t s h = let m = some_node (node_at w t) s h in ap is_some m.1
 
 type_lives : (w : World) (t : Term) (o : Option Node) (of : TypeId) → node_at w t ≡ o → option_map (λ (n : Node). n.of) o ≡ Some of → IsSome (node_at w t)

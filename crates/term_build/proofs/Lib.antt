@@ -1,5 +1,6 @@
 pub mod Calls
 pub mod Growing
+pub mod Below
 pub mod Kept
 pub mod Fits
 pub mod Standing
@@ -11,3 +12,4 @@ pub mod Nearly
 pub mod Built
 pub mod Lasts
 pub mod Once
+pub mod Repeating

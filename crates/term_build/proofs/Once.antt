@@ -80,12 +80,12 @@ module _ (old new : World) (table : IsTable old) (after : IsTable new) where
       let e : k ≡ l = same_Some k l (sym p.0 ∙ ap sort_of (tree_is old table t same.0.tree same.0.before ∙ sym (tree_is new after t same.0.tree same.0.after)) ∙ q.0) in
       ap (λ z. z ∷ ks) e ∙ ap (λ z. l ∷ z) (same_sorts law ts ks ls same.1 h.1 g.1)
 
-shape_there : (w : World) (t : Term) (b : Tree) → Keeps w t b → (s : Shape) × (shape_at w t ≡ Some s)
+pub shape_there : (w : World) (t : Term) (b : Tree) → Keeps w t b → (s : Shape) × (shape_at w t ≡ Some s)
 unfolding Keeps
 shape_there w t (node op bs) (s, k, has, names, is, kept) = (s, has)
 
 -- what is built leaves live terms unchanged
-wider_unchanged : (w new : World) → IsTable w → IsWider w new → (law : SameSortIsEqual) (ts : List Term) (ks : List Sort) → HaveSorts w ts ks → AreUnchanged w new ts
+pub wider_unchanged : (w new : World) → IsTable w → IsWider w new → (law : SameSortIsEqual) (ts : List Term) (ks : List Sort) → HaveSorts w ts ks → AreUnchanged w new ts
 wider_unchanged w new table m law [] [] h = tt
 wider_unchanged w new table m law [] (k ∷ ks) h = absurd h
 wider_unchanged w new table m law (t ∷ ts) [] h = absurd h
@@ -95,7 +95,7 @@ wider_unchanged w new table m law (t ∷ ts) (k ∷ ks) h =
     (record { shape = s.1 ∙ sym (shape_stays w new m t s.0 s.1); tree = tree_at w table t; before = p.1; after = tree_stays w new m (tree_at w table t) t p.1 }, wider_unchanged w new table m law ts ks h.1)
 
 -- the tree of an answer
-answer_keeps : SameSortIsEqual → SketchesAreMadeOf → (a b : World) (on : IsBuiltOn a b) (o : Operator) (ts : List Term) (t : Term) (ks : List Sort) → HaveSorts a ts ks
+pub answer_keeps : SameSortIsEqual → SketchesAreMadeOf → (a b : World) (on : IsBuiltOn a b) (o : Operator) (ts : List Term) (t : Term) (ks : List Sort) → HaveSorts a ts ks
     → IsMade b t (sketch_of o (are_truths ks) (map (literal_at a) ts)) → Keeps b t (sketch_tree (tree_at a on.before) (sketch_of o (are_truths ks) (map (literal_at a) ts)))
 answer_keeps law made a b on o ts t ks have is =
     let ls : List Literal = map (literal_at a) ts in

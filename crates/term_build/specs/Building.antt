@@ -16,6 +16,7 @@ use Rattle.term_shapes.specs.Shapes.{args_of}
 use Rattle.term_table.specs.World.{World, node_at, shape_at, HasShape, Keeps, KeepsAll}
 use Rattle.term_table.specs.Changes.{AddsNode, IsOperator}
 use Rattle.term_table.specs.Checking.{operator, HasSort, HaveSorts, IsFirstDead, Tells}
+use Rattle.term_orders.specs.Orders.{IsBelow, IsUnder}
 use Rattle.shape_rules.specs.declared.errors.ShapeError.TheVariants as shape_refusal
 use Rattle.term_sketches.specs.declared.items.Literal.{Literal}
 use Rattle.term_sketches.specs.declared.items.Sketch.{Sketch}
@@ -77,6 +78,14 @@ IsMade w t (sketch.Apart us) = HasShape w t (shape.Distinct us)
 pub data AddsAtMost : ℕ → World → World → Type 0 where
   no_more : (n : ℕ) (w : World) → AddsAtMost n w w
   one_more : (n : ℕ) (old mid new : World) (t : Term) (x : Node) → AddsNode old mid t x → AddsAtMost n mid new → AddsAtMost (suc n) old new
+
+-- each new term is the term itself, or below one of its arguments
+pub record AddsBelow (old new : World) (t : Term) : Type 0 where
+  pub each : (u : Term) → IsSome (node_at new u) → node_at old u ≡ None → IsBelow new u t
+
+-- each new term is below one of the list
+pub record AddsUnder (old new : World) (ts : List Term) : Type 0 where
+  pub each : (u : Term) → IsSome (node_at new u) → node_at old u ≡ None → IsUnder new ts u
 
 -- what is wrong with the arguments of a call: what its operator's row says, but that a conjunction, a disjunction and a parity may have none
 abbrev pub call_misfit : Op → List Sort → Option Misfit

@@ -4,13 +4,15 @@ use Rattle.y_tree.specs.Sorts.{Sort}
 use Rattle.y_tree.specs.Tree.{Tree}
 use Rattle.stamped_slots.specs.Slots.{live}
 use Rattle.term_shapes.specs.declared.handles.Term.{Term}
+use Rattle.term_shapes.specs.declared.handles.TypeId.{TypeId}
 use Rattle.term_shapes.specs.declared.shapes.Shape.{Shape}
+use Rattle.term_shapes.specs.declared.shapes.TypeShape.{TypeShape}
 use Rattle.term_shapes.specs.declared.shapes.Node.{Node}
-use Rattle.term_table.specs.World.{World, node_at, shape_at, HasNode, HasShape, Keeps, IsTable, IsAfter}
+use Rattle.term_table.specs.World.{World, node_at, shape_at, HasNode, HasShape, HasTypeShape, Keeps, IsTable, IsAfter}
 use Rattle.term_table.specs.Changes.{count_at}
 use Rattle.term_table.specs.Checking.{HasSort}
 use Rattle.term_sketches.specs.declared.items.Operator.{Operator}
-use Rattle.term_build.specs.Building.{AddsAtMost, IsBuilt}
+use Rattle.term_build.specs.Building.{AddsAtMost, AddsBelow, IsBuilt}
 
 -- whatever was said of a term that was live is still so, and there are at most so many terms more
 pub record LastsWith (n : ℕ) (old new : World) : Type 0 where
@@ -60,3 +62,24 @@ AnswersAgain =
 abbrev pub AnswersAgainInBuilding : Type 0
 AnswersAgainInBuilding =
     (a b c d : World) (o : Operator) (ts : List Term) (t u : Term) → IsBuiltOn a b → IsBuiltOn b c → IsBuiltOn c d → IsBuilt a b o ts t → IsBuilt c d o ts u → t ≡ u
+
+-- what was live is live, each term with its shape and its type and each type with its shape, whatever else was made
+pub record StaysLive (old new : World) : Type 0 where
+  pub terms : (t : Term) (x : Node) → HasNode old t x → HasNode new t x
+  pub types : (t : TypeId) (s : TypeShape) → HasTypeShape old t s → HasTypeShape new t s
+
+-- a call over arguments that are unchanged since an earlier call of the same constructor changes nothing, where the earlier answer is live and stands for what it stood for, and it answers that one
+abbrev pub AddsNothingAgain : Type 0
+AddsNothingAgain =
+    (a b c d : World) (o : Operator) (ts : List Term) (t u : Term) → IsBuiltOn a b → IsBuiltOn c d → IsBuilt a b o ts t → IsBuilt c d o ts u → AddsBelow c d u → AreUnchanged a c ts
+    → (tree : Tree) → Keeps b t tree → Keeps c t tree → (t ≡ u) × (d ≡ c)
+
+-- so it is where what was live after the earlier call is so still
+abbrev pub AddsNothingWhereLive : Type 0
+AddsNothingWhereLive =
+    (a b c d : World) (o : Operator) (ts : List Term) (t u : Term) → IsBuiltOn a b → StaysLive b c → IsBuiltOn c d → IsBuilt a b o ts t → IsBuilt c d o ts u → AddsBelow c d u → (t ≡ u) × (d ≡ c)
+
+-- so it is where terms were only built in between
+abbrev pub AddsNothingInBuilding : Type 0
+AddsNothingInBuilding =
+    (a b c d : World) (o : Operator) (ts : List Term) (t u : Term) → IsBuiltOn a b → IsBuiltOn b c → IsBuiltOn c d → IsBuilt a b o ts t → IsBuilt c d o ts u → AddsBelow c d u → (t ≡ u) × (d ≡ c)

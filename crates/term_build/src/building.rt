@@ -1,11 +1,11 @@
 //! The simplifying constructors.
-ghost use Rattle.std.specs.Prelude.{◌≡◌, ◌+◌, IfOk, IfErr, List, length, map};
+ghost use Rattle.std.specs.Prelude.{◌≡◌, ◌+◌, ◌⊎◌, IfOk, IfErr, List, length, map};
 ghost use Rattle.y_tree.specs.Sorts.{Sort, boolean, same_sort};
 ghost use Rattle.term_table.specs.Checking.{HasSort, HaveSorts};
 ghost use Rattle.term_table.specs.World.{IsTable, KeepsType};
 ghost use Rattle.term_sketches.specs.Sketches.{operator_of, sketch_of};
 ghost use Rattle.term_sketches.specs.Valuing.{are_truths};
-ghost use Rattle.term_build.specs.Building.{AddsAtMost, AreFit, AreKnown, IsBuilt, MayAdd, RefusesCall, RefusesNew, is_bool_shape, literal_at};
+ghost use Rattle.term_build.specs.Building.{AddsAtMost, AddsBelow, AreFit, AreKnown, IsBuilt, MayAdd, RefusesCall, RefusesNew, is_bool_shape, literal_at};
 
 use crate::checking::check_call;
 use crate::errors::BuildError;
@@ -19,13 +19,13 @@ use term_table::{Table, Term, TypeId, TypeShape};
 use y_tree::laws::{misfits, sorts_are_decided, trees_have_sorts};
 
 /// The term of an operator over the arguments, simplified: it has the meaning of the operator over the arguments' trees,
-/// and few subterms that these have not. A conjunction, a disjunction and a parity may have no arguments. The time is
-/// n log n for n arguments, but for what the table takes to find a shape.
+/// and few subterms that these have not. Each new term is the answer or stands in it. A conjunction, a disjunction and a
+/// parity may have no arguments. The time is n log n for n arguments, but for what the table takes to find a shape.
 ///
 /// # Errors
 ///
 /// The first dead argument, then the first misfit of the operator's row: then nothing changes. Then `TableFull` where no
-/// slot is left, and `NoMemory`: then some terms may be there already.
+/// slot is left, and `NoMemory`: then some terms may be there already, where the call is fit.
 pub fn build(
     alloc: Global,
     table: &mut Table,
@@ -34,8 +34,10 @@ pub fn build(
 ) -> Result<Term, BuildError>
     ensures built { IfOk result (IsBuilt table.old table.new operator arguments.now) }
     ensures grown { AddsAtMost (4 + length arguments.now) table.old table.new }
+    ensures below { IfOk result (λ t. AddsBelow table.old table.new t) }
     ensures refused { IfErr result (RefusesCall table.old table.new (operator_of operator) arguments.now) }
     ensures same { IfErr result (λ e. (MayAdd e → ⊥) → table.new ≡ table.old) }
+    ensures fit { IfErr result (λ e. AreFit table.old (operator_of operator) arguments.now ⊎ (table.new ≡ table.old)) }
 {
     check_call(alloc, table, operator, arguments)?;
     build_fit(alloc, table, operator, arguments)
@@ -51,6 +53,7 @@ fn build_fit(
     requires { AreFit table.old (operator_of operator) arguments.now }
     ensures built { IfOk result (IsBuilt table.old table.new operator arguments.now) }
     ensures grown { AddsAtMost (4 + length arguments.now) table.old table.new }
+    ensures below { IfOk result (λ t. AddsBelow table.old table.new t) }
     ensures refused { IfErr result (λ e. RefusesNew table.new e) }
 {
     known();

@@ -2,7 +2,7 @@
 ghost use Rattle.std.specs.Prelude.{◌≡◌, ◌+◌, ◌∷◌, [], IfOk, IfErr, length};
 ghost use Rattle.y_tree.specs.Tree.{negation, conjunction, disjunction, parity, implication, equivalence, choice, equality, disequality, distinctness};
 ghost use Rattle.term_sketches.specs.declared.items.Operator.TheVariants as constructor;
-ghost use Rattle.term_build.specs.Building.{AddsAtMost, IsBuilt, MayAdd, RefusesCall};
+ghost use Rattle.term_build.specs.Building.{AddsAtMost, AddsBelow, IsBuilt, MayAdd, RefusesCall};
 
 use crate::building::build;
 use crate::errors::BuildError;
@@ -18,6 +18,7 @@ use term_table::{Table, Term};
 pub fn not(alloc: Global, table: &mut Table, t: Term) -> Result<Term, BuildError>
     ensures built { IfOk result (IsBuilt table.old table.new constructor.Not (t ∷ [])) }
     ensures grown { AddsAtMost 5 table.old table.new }
+    ensures below { IfOk result (λ t. AddsBelow table.old table.new t) }
     ensures refused { IfErr result (RefusesCall table.old table.new negation (t ∷ [])) }
     ensures same { IfErr result (λ e. (MayAdd e → ⊥) → table.new ≡ table.old) }
 {
@@ -32,6 +33,7 @@ pub fn not(alloc: Global, table: &mut Table, t: Term) -> Result<Term, BuildError
 pub fn and(alloc: Global, table: &mut Table, arguments: &[Term]) -> Result<Term, BuildError>
     ensures built { IfOk result (IsBuilt table.old table.new constructor.And arguments.now) }
     ensures grown { AddsAtMost (4 + length arguments.now) table.old table.new }
+    ensures below { IfOk result (λ t. AddsBelow table.old table.new t) }
     ensures refused { IfErr result (RefusesCall table.old table.new conjunction arguments.now) }
     ensures same { IfErr result (λ e. (MayAdd e → ⊥) → table.new ≡ table.old) }
 {
@@ -46,6 +48,7 @@ pub fn and(alloc: Global, table: &mut Table, arguments: &[Term]) -> Result<Term,
 pub fn or(alloc: Global, table: &mut Table, arguments: &[Term]) -> Result<Term, BuildError>
     ensures built { IfOk result (IsBuilt table.old table.new constructor.Or arguments.now) }
     ensures grown { AddsAtMost (4 + length arguments.now) table.old table.new }
+    ensures below { IfOk result (λ t. AddsBelow table.old table.new t) }
     ensures refused { IfErr result (RefusesCall table.old table.new disjunction arguments.now) }
     ensures same { IfErr result (λ e. (MayAdd e → ⊥) → table.new ≡ table.old) }
 {
@@ -60,6 +63,7 @@ pub fn or(alloc: Global, table: &mut Table, arguments: &[Term]) -> Result<Term, 
 pub fn xor(alloc: Global, table: &mut Table, arguments: &[Term]) -> Result<Term, BuildError>
     ensures built { IfOk result (IsBuilt table.old table.new constructor.Xor arguments.now) }
     ensures grown { AddsAtMost (4 + length arguments.now) table.old table.new }
+    ensures below { IfOk result (λ t. AddsBelow table.old table.new t) }
     ensures refused { IfErr result (RefusesCall table.old table.new parity arguments.now) }
     ensures same { IfErr result (λ e. (MayAdd e → ⊥) → table.new ≡ table.old) }
 {
@@ -79,6 +83,7 @@ pub fn implies(
 ) -> Result<Term, BuildError>
     ensures built { IfOk result (IsBuilt table.old table.new constructor.Implies (left ∷ right ∷ [])) }
     ensures grown { AddsAtMost 6 table.old table.new }
+    ensures below { IfOk result (λ t. AddsBelow table.old table.new t) }
     ensures refused { IfErr result (RefusesCall table.old table.new implication (left ∷ right ∷ [])) }
     ensures same { IfErr result (λ e. (MayAdd e → ⊥) → table.new ≡ table.old) }
 {
@@ -93,6 +98,7 @@ pub fn implies(
 pub fn iff(alloc: Global, table: &mut Table, left: Term, right: Term) -> Result<Term, BuildError>
     ensures built { IfOk result (IsBuilt table.old table.new constructor.Iff (left ∷ right ∷ [])) }
     ensures grown { AddsAtMost 6 table.old table.new }
+    ensures below { IfOk result (λ t. AddsBelow table.old table.new t) }
     ensures refused { IfErr result (RefusesCall table.old table.new equivalence (left ∷ right ∷ [])) }
     ensures same { IfErr result (λ e. (MayAdd e → ⊥) → table.new ≡ table.old) }
 {
@@ -113,6 +119,7 @@ pub fn ite(
 ) -> Result<Term, BuildError>
     ensures built { IfOk result (IsBuilt table.old table.new constructor.Ite (test ∷ yes ∷ no ∷ [])) }
     ensures grown { AddsAtMost 7 table.old table.new }
+    ensures below { IfOk result (λ t. AddsBelow table.old table.new t) }
     ensures refused { IfErr result (RefusesCall table.old table.new choice (test ∷ yes ∷ no ∷ [])) }
     ensures same { IfErr result (λ e. (MayAdd e → ⊥) → table.new ≡ table.old) }
 {
@@ -127,6 +134,7 @@ pub fn ite(
 pub fn eq(alloc: Global, table: &mut Table, left: Term, right: Term) -> Result<Term, BuildError>
     ensures built { IfOk result (IsBuilt table.old table.new constructor.Eq (left ∷ right ∷ [])) }
     ensures grown { AddsAtMost 6 table.old table.new }
+    ensures below { IfOk result (λ t. AddsBelow table.old table.new t) }
     ensures refused { IfErr result (RefusesCall table.old table.new equality (left ∷ right ∷ [])) }
     ensures same { IfErr result (λ e. (MayAdd e → ⊥) → table.new ≡ table.old) }
 {
@@ -141,6 +149,7 @@ pub fn eq(alloc: Global, table: &mut Table, left: Term, right: Term) -> Result<T
 pub fn neq(alloc: Global, table: &mut Table, left: Term, right: Term) -> Result<Term, BuildError>
     ensures built { IfOk result (IsBuilt table.old table.new constructor.Neq (left ∷ right ∷ [])) }
     ensures grown { AddsAtMost 6 table.old table.new }
+    ensures below { IfOk result (λ t. AddsBelow table.old table.new t) }
     ensures refused { IfErr result (RefusesCall table.old table.new disequality (left ∷ right ∷ [])) }
     ensures same { IfErr result (λ e. (MayAdd e → ⊥) → table.new ≡ table.old) }
 {
@@ -155,6 +164,7 @@ pub fn neq(alloc: Global, table: &mut Table, left: Term, right: Term) -> Result<
 pub fn distinct(alloc: Global, table: &mut Table, arguments: &[Term]) -> Result<Term, BuildError>
     ensures built { IfOk result (IsBuilt table.old table.new constructor.Distinct arguments.now) }
     ensures grown { AddsAtMost (4 + length arguments.now) table.old table.new }
+    ensures below { IfOk result (λ t. AddsBelow table.old table.new t) }
     ensures refused { IfErr result (RefusesCall table.old table.new distinctness arguments.now) }
     ensures same { IfErr result (λ e. (MayAdd e → ⊥) → table.new ≡ table.old) }
 {

@@ -5,7 +5,8 @@
 //! subtrees of the answer's tree stand in no argument's tree, and these are no constants and no variables. Else it tells
 //! the first dead argument, or the first misfit of the operator's row. `not`, `and`, `or`, `xor`, `implies`, `iff`, `ite`,
 //! `eq`, `neq` and `distinct` are its ten constructors. What was said of live terms lasts (`after_building`), and one
-//! constructor over unchanged arguments answers one handle (`one_answer`).
+//! constructor over unchanged arguments answers one handle (`one_answer`). Each new term stands in the answer, so a call
+//! that was answered before changes nothing while that answer is live (`nothing_added_again`).
 //!
 //! A call is judged first, by a shape with the same row. Its arguments are taken as literals, by their shapes, and the
 //! sketch of `term_sketches` says what is made of them: a function of the operator and of these literals, with the
@@ -31,5 +32,5 @@ mod tests;
 pub use building::build;
 pub use constructors::{and, distinct, eq, iff, implies, ite, neq, not, or, xor};
 pub use errors::BuildError;
-pub use laws::{after_building, one_answer};
+pub use laws::{after_building, nothing_added_again, one_answer};
 pub use term_sketches::Operator;

@@ -4,7 +4,7 @@ ghost use Rattle.term_shapes.specs.declared.handles.TypeId.{TypeId};
 ghost use Rattle.term_table.specs.Checking.{AddsShape, HasSort, IsShape};
 ghost use Rattle.term_table.specs.World.{World, HasShape, KeepsType};
 ghost use Rattle.y_tree.specs.Sorts.{boolean};
-ghost use Rattle.term_build.specs.Building.{AddsAtMost, AreLiterals, AreReady, IsFlagged, IsLiteral, IsReadyLiteral, RefusesNew};
+ghost use Rattle.term_build.specs.Building.{AddsAtMost, AddsBelow, AddsUnder, AreLiterals, AreReady, IsFlagged, IsLiteral, IsReadyLiteral, RefusesNew};
 
 use crate::errors::{BuildError, from_table};
 use std::alloc::Global;
@@ -18,6 +18,7 @@ pub(crate) fn add(table: &mut Table, shape: Shape) -> Result<Term, BuildError>
     ensures added { IfOk result (λ t. AddsShape table.old table.new shape t) }
     ensures refused { IfErr result (λ e. RefusesNew table.new e) }
     ensures grown { AddsAtMost 1 table.old table.new }
+    ensures below { IfOk result (λ t. AddsBelow table.old table.new t) }
 {
     match table.add(shape) {
         Ok(t) => Ok(t),
@@ -30,6 +31,7 @@ pub(crate) fn literal_term(table: &mut Table, literal: Literal) -> Result<Term, 
     requires { IsReadyLiteral table.old literal }
     ensures made { IfOk result (λ t. IsLiteral table.new t literal) }
     ensures grown { AddsAtMost 1 table.old table.new }
+    ensures below { IfOk result (λ t. AddsBelow table.old table.new t) }
     ensures refused { IfErr result (λ e. RefusesNew table.new e) }
 {
     table.is_table();
@@ -51,6 +53,7 @@ pub(crate) fn literal_terms(
     requires { AreReady table.old literals.now }
     ensures made { IfOk result (λ args. AreLiterals table.new args literals.now) }
     ensures grown { AddsAtMost (length literals.now) table.old table.new }
+    ensures below { IfOk result (λ args. AddsUnder table.old table.new args) }
     ensures refused { IfErr result (λ e. RefusesNew table.new e) }
 {
     let mut args = Args::new(alloc);
@@ -77,6 +80,7 @@ pub(crate) fn flagged(table: &mut Table, negated: bool, shape: Shape) -> Result<
     requires { (of : TypeId) × IsShape table.old shape of × KeepsType table.old of boolean }
     ensures made { IfOk result (λ t. IsFlagged table.new t negated shape) }
     ensures grown { AddsAtMost 2 table.old table.new }
+    ensures below { IfOk result (λ t. AddsBelow table.old table.new t) }
     ensures refused { IfErr result (λ e. RefusesNew table.new e) }
 {
     let inner = add(table, shape)?;
@@ -94,6 +98,7 @@ fn negation(table: &mut Table, inner: Term) -> Result<Term, BuildError>
     requires { HasSort table.old inner boolean }
     ensures made { IfOk result (λ t. HasShape table.new t (Shape.Not inner)) }
     ensures grown { AddsAtMost 1 table.old table.new }
+    ensures below { IfOk result (λ t. AddsBelow table.old table.new t) }
     ensures refused { IfErr result (λ e. RefusesNew table.new e) }
 {
     table.is_table();

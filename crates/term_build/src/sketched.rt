@@ -1,10 +1,10 @@
 //! Terms of sketches.
-ghost use Rattle.std.specs.Prelude.{◌≡◌, ◌+◌, IfOk, IfErr, length};
+ghost use Rattle.std.specs.Prelude.{◌≡◌, ◌+◌, ◌∷◌, [], IfOk, IfErr, length};
 ghost use Rattle.y_tree.specs.Sorts.{Sort, boolean};
 ghost use Rattle.term_table.specs.Checking.{HasSort};
 ghost use Rattle.term_sketches.specs.Valuing.{IsFilled, parts_of};
 ghost use Rattle.term_sketches.specs.declared.items.Sketch.TheVariants as sketch;
-ghost use Rattle.term_build.specs.Building.{AddsAtMost, AllAreOf, AllHaveSort, IsLiteral, IsLiteralOf, IsMade, IsReady, IsReadyLiteral, RefusesNew};
+ghost use Rattle.term_build.specs.Building.{AddsAtMost, AddsBelow, AddsUnder, AllAreOf, AllHaveSort, IsLiteral, IsLiteralOf, IsMade, IsReady, IsReadyLiteral, RefusesNew};
 
 use crate::errors::BuildError;
 use crate::realising::{add, flagged, literal_term, literal_terms};
@@ -19,6 +19,7 @@ pub(crate) fn realise(alloc: Global, table: &mut Table, sketch: Sketch) -> Resul
     requires { IsReady table.old sketch }
     ensures made { IfOk result (λ t. IsMade table.new t sketch) }
     ensures grown { AddsAtMost (length (parts_of sketch) + 2) table.old table.new }
+    ensures below { IfOk result (λ t. AddsBelow table.old table.new t) }
     ensures refused { IfErr result (λ e. RefusesNew table.new e) }
 {
     match sketch {
@@ -42,6 +43,7 @@ fn all_of(alloc: Global, table: &mut Table, all: &[Literal]) -> Result<Term, Bui
     requires sorts { AllAreOf table.old boolean all.now }
     ensures made { IfOk result (λ t. IsMade table.new t (sketch.AllOf all.now)) }
     ensures grown { AddsAtMost (length all.now + 2) table.old table.new }
+    ensures below { IfOk result (λ t. AddsBelow table.old table.new t) }
     ensures refused { IfErr result (λ e. RefusesNew table.new e) }
 {
     let args = literal_terms(alloc, table, all)?;
@@ -56,6 +58,7 @@ fn any_of(alloc: Global, table: &mut Table, all: &[Literal]) -> Result<Term, Bui
     requires sorts { AllAreOf table.old boolean all.now }
     ensures made { IfOk result (λ t. IsMade table.new t (sketch.AnyOf all.now)) }
     ensures grown { AddsAtMost (length all.now + 2) table.old table.new }
+    ensures below { IfOk result (λ t. AddsBelow table.old table.new t) }
     ensures refused { IfErr result (λ e. RefusesNew table.new e) }
 {
     let args = literal_terms(alloc, table, all)?;
@@ -75,6 +78,7 @@ fn odd_of(
     requires sorts { AllHaveSort table.old boolean atoms.now }
     ensures made { IfOk result (λ t. IsMade table.new t (sketch.OddOf negated atoms.now)) }
     ensures grown { AddsAtMost 2 table.old table.new }
+    ensures below { IfOk result (λ t. AddsBelow table.old table.new t) }
     ensures refused { IfErr result (λ e. RefusesNew table.new e) }
 {
     table.is_table();
@@ -90,6 +94,7 @@ fn equal(table: &mut Table, negated: bool, left: Term, right: Term) -> Result<Te
     requires { (s : Sort) × HasSort table.old left s × HasSort table.old right s }
     ensures made { IfOk result (λ t. IsMade table.new t (sketch.Equal negated left right)) }
     ensures grown { AddsAtMost 2 table.old table.new }
+    ensures below { IfOk result (λ t. AddsBelow table.old table.new t) }
     ensures refused { IfErr result (λ e. RefusesNew table.new e) }
 {
     table.is_table();
@@ -104,6 +109,7 @@ fn apart(alloc: Global, table: &mut Table, atoms: &[Term]) -> Result<Term, Build
     requires sorts { (s : Sort) × AllHaveSort table.old s atoms.now }
     ensures made { IfOk result (λ t. IsMade table.new t (sketch.Apart atoms.now)) }
     ensures grown { AddsAtMost 1 table.old table.new }
+    ensures below { IfOk result (λ t. AddsBelow table.old table.new t) }
     ensures refused { IfErr result (λ e. RefusesNew table.new e) }
 {
     table.is_table();
@@ -121,6 +127,7 @@ fn one_of(table: &mut Table, test: Term, yes: Literal, no: Literal) -> Result<Te
     requires branches { (s : Sort) × IsLiteralOf table.old s yes × IsLiteralOf table.old s no }
     ensures made { IfOk result (λ t. IsMade table.new t (sketch.OneOf test yes no)) }
     ensures grown { AddsAtMost 3 table.old table.new }
+    ensures below { IfOk result (λ t. AddsBelow table.old table.new t) }
     ensures refused { IfErr result (λ e. RefusesNew table.new e) }
 {
     sorts_are_decided();
@@ -136,6 +143,7 @@ fn two_literals(table: &mut Table, yes: Literal, no: Literal) -> Result<(Term, T
     requires no { IsReadyLiteral table.old no }
     ensures made { IfOk result (λ p. IsLiteral table.new p.0 yes × IsLiteral table.new p.1 no) }
     ensures grown { AddsAtMost 2 table.old table.new }
+    ensures below { IfOk result (λ p. AddsUnder table.old table.new (p.0 ∷ p.1 ∷ [])) }
     ensures refused { IfErr result (λ e. RefusesNew table.new e) }
 {
     let left = literal_term(table, yes)?;
@@ -148,6 +156,7 @@ fn other_literal(table: &mut Table, literal: Literal) -> Result<Term, BuildError
     requires { IsReadyLiteral table.old literal }
     ensures made { IfOk result (λ t. IsLiteral table.new t literal) }
     ensures grown { AddsAtMost 1 table.old table.new }
+    ensures below { IfOk result (λ t. AddsBelow table.old table.new t) }
     ensures refused { IfErr result (λ e. RefusesNew table.new e) }
 {
     literal_term(table, literal)

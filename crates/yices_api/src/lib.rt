@@ -37,6 +37,8 @@ pub use handles::ContextId;
 pub use laws::{one_more_step, runs_last, same_again, steps_last};
 pub use replies::{CallError, Reply};
 pub use stepping::step;
+pub use term_build::BuildError;
 pub use term_checks::Turns;
+pub use term_sketches::Operator;
 pub use term_table::{Marked, Table, Term, Terms, TypeId, Wanted};
 pub use y_io::Text;

@@ -1,7 +1,9 @@
-use Rattle.std.proofs.Common.{lit≤, sym, subst}
+use Rattle.std.proofs.Common.{[], ◌∷◌, lit≤, sym, subst}
 use Rattle.y_tree.specs.Sorts.{boolean}
+use Rattle.term_shapes.specs.declared.shapes.Shape.TheVariants as shape
 use Rattle.term_build.specs.Building.{IsFlagged}
 use Rattle.term_build.proofs.Growing.{wider, at_most_more, then_more, shape_stays, type_stays, is_shape_stays, added_shape}
+use Rattle.term_build.proofs.Below.{args_below, one_under, then_below}
 use Rattle.term_build.proofs.Kept.{shape_sort}
 use Rattle.term_build.proofs.realising.flagged.Goals as goal
 
@@ -34,3 +36,9 @@ returns-clause-made c =
 
 pub returns-clause-grown : goal.returns-clause-grown
 returns-clause-grown c = then_more 1 1 2 c.args.table.now c.add.new.table c.negation.new.table c.add.ensures.grown c.negation.ensures.grown (lit≤ tt)
+
+pub returns-clause-below : goal.returns-clause-below
+returns-clause-below c =
+    then_below c.args.table.now c.add.new.table c.negation.new.table (wider 1 c.add.new.table c.negation.new.table c.negation.ensures.grown) (c.in_ok-inner.inner ∷ []) c.in_ok-outer.outer
+    (one_under c.args.table.now c.add.new.table c.in_ok-inner.inner c.in_ok-inner.ensures.below) c.in_ok-outer.ensures.below
+    (args_below c.negation.new.table c.in_ok-outer.outer (shape.Not c.in_ok-inner.inner) c.in_ok-outer.ensures.made)

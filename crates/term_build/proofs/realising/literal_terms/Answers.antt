@@ -3,6 +3,7 @@ use Rattle.std.proofs.lemmas.Result.{err_from_is_err_and}
 use Rattle.term_sketches.specs.declared.items.Literal.{Literal}
 use Rattle.term_build.specs.Building.{no_more}
 use Rattle.term_build.proofs.Growing.{wider, literals_start, literals_stay, literals_step, then_more, ready_stays, ready_at}
+use Rattle.term_build.proofs.Below.{nothing_under, then_under}
 use Rattle.term_build.proofs.realising.literal_terms.Goals as goal
 
 -- the literal of an empty place
@@ -10,7 +11,7 @@ none_there : Literal
 none_there = record { atom = record { slot = 0; stamp = 0 }; negated = false }
 
 pub loop-literal-init : goal.loop-literal-init
-loop-literal-init c = record { grown = no_more 0 c.args.table.now; made = literals_start c.args.table.now c.new-args.result c.args.literals.now c.new-args.ensures }
+loop-literal-init c = record { grown = no_more 0 c.args.table.now; made = literals_start c.args.table.now c.new-args.result c.args.literals.now c.new-args.ensures; under = nothing_under c.args.table.now c.new-args.result }
 
 pub literal_term-requires : goal.literal_term-requires
 unfolding none_there
@@ -39,4 +40,6 @@ loop-literal-preserved c = record {
   made = literals_step c.literal_term.new.table c.loop-literal.args c.push.new.args c.args.literals.now c.loop-literal.literal-index none_there c.in_ok-t.t c.loop-literal-test.true
       (literals_stay c.loop-literal.table c.literal_term.new.table (wider 1 c.loop-literal.table c.literal_term.new.table c.literal_term.ensures.grown) c.loop-literal.args _ c.loop-literal.invariant.made)
       c.in_ok-t.ensures.made c.in_ok-push.ensures.ok;
+  under = then_under c.args.table.now c.loop-literal.table c.literal_term.new.table (wider 1 c.loop-literal.table c.literal_term.new.table c.literal_term.ensures.grown) c.loop-literal.args c.push.new.args c.in_ok-t.t
+      c.loop-literal.invariant.under c.in_ok-t.ensures.below c.in_ok-push.ensures.ok;
 }

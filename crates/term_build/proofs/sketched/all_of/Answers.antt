@@ -1,6 +1,7 @@
 use Rattle.std.proofs.Common.{◌+◌, length, arith}
 use Rattle.term_shapes.specs.declared.shapes.Shape.TheVariants as shape
 use Rattle.term_build.proofs.Growing.{wider, at_most_more, then_more, ready_all, literals_stay, added_shape}
+use Rattle.term_build.proofs.Below.{args_below, then_below}
 use Rattle.term_build.proofs.Fits.{and_shape, literal_sorts, literals_filled}
 use Rattle.term_build.proofs.sketched.all_of.Goals as goal
 
@@ -31,3 +32,8 @@ returns-clause-made c = (
 pub returns-clause-grown : goal.returns-clause-grown
 returns-clause-grown c =
     then_more (length c.args.all.now) 1 (length c.args.all.now + 2) c.args.table.now c.literal_terms.new.table c.add.new.table c.literal_terms.ensures.grown c.add.ensures.grown (omega arith)
+
+pub returns-clause-below : goal.returns-clause-below
+returns-clause-below c =
+    then_below c.args.table.now c.literal_terms.new.table c.add.new.table (wider 1 c.literal_terms.new.table c.add.new.table c.add.ensures.grown) c.in_ok-args.args c.in_ok-t.t c.in_ok-args.ensures.below c.in_ok-t.ensures.below
+    (args_below c.add.new.table c.in_ok-t.t (shape.And c.in_ok-args.args) (added_shape c.literal_terms.new.table c.add.new.table c.in_ok-t.t (shape.And c.in_ok-args.args) c.in_ok-t.ensures.added))

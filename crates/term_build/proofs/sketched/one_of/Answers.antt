@@ -1,7 +1,8 @@
-use Rattle.std.proofs.Common.{lit≤}
+use Rattle.std.proofs.Common.{suc, [], ◌∷◌, lit≤}
 use Rattle.y_tree.specs.Sorts.{boolean}
 use Rattle.term_shapes.specs.declared.shapes.Shape.TheVariants as shape
 use Rattle.term_build.proofs.Growing.{wider, at_most_more, then_more, sort_stays, literal_stays, added_shape}
+use Rattle.term_build.proofs.Below.{args_below, then_below}
 use Rattle.term_build.proofs.Fits.{ite_shape, literal_sort, ready_of, literal_of_stays}
 use Rattle.term_build.proofs.sketched.one_of.Goals as goal
 
@@ -39,3 +40,10 @@ returns-clause-made c =
 
 pub returns-clause-grown : goal.returns-clause-grown
 returns-clause-grown c = then_more 2 1 3 c.args.table.now c.two_literals.new.table c.add.new.table c.two_literals.ensures.grown c.add.ensures.grown (lit≤ tt)
+
+pub returns-clause-below : goal.returns-clause-below
+returns-clause-below c =
+    let w = c.two_literals.new.table in
+    let s = shape.Ite c.args.test c.in_ok-both.both.0 c.in_ok-both.both.1 in
+    then_below c.args.table.now w c.add.new.table (wider 1 w c.add.new.table c.add.ensures.grown) (c.in_ok-both.both.0 ∷ c.in_ok-both.both.1 ∷ []) c.in_ok-t.t c.in_ok-both.ensures.below c.in_ok-t.ensures.below
+    (λ u is. args_below c.add.new.table c.in_ok-t.t s (added_shape w c.add.new.table c.in_ok-t.t s c.in_ok-t.ensures.added) u (record { place = suc is.place; at = is.at }))
