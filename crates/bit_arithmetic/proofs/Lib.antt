@@ -1,0 +1,4 @@
+pub mod Moduli
+pub mod Cases
+pub mod Rows
+pub mod Pairs
