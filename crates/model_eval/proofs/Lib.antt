@@ -1,0 +1,16 @@
+pub mod Lists
+pub mod Fitting
+pub mod Places
+pub mod Words
+pub mod Kept
+pub mod Made
+pub mod Shown
+pub mod Constants
+pub mod Arms
+pub mod Calls
+pub mod Adding
+pub mod Entries
+pub mod Passes
+pub mod Shaping
+pub mod Zeros
+pub mod Sorting

@@ -1,0 +1,6 @@
+pub mod Models
+pub mod Known
+pub mod Words
+pub mod Sums
+pub mod Evaluating
+pub mod Refusing
