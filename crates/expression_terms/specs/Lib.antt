@@ -1,0 +1,9 @@
+pub mod Trees
+pub mod Standing
+pub mod Growth
+pub mod Fresh
+pub mod Bound
+pub mod Parts
+pub mod Building
+pub mod Outcomes
+pub mod Keeping
