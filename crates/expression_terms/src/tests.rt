@@ -53,20 +53,26 @@ fn over(alloc: Global, word: &str, texts: &[&str]) -> Result<Expr, AllocError> {
     })
 }
 
-/// Names that are bound to names at column 4, at column 3 around an expression.
-fn binding(alloc: Global, binds: &[(&str, &str)], body: Expr) -> Result<Expr, AllocError> {
+/// A name that is bound to a name at column 4.
+fn bind(alloc: Global, bound: &str, text: &str) -> Result<Bind, AllocError> {
+    let bound = Text::new(alloc, bound)?;
+    let expr = name(alloc, 4, text)?;
+    Ok(Bind { name: bound, expr })
+}
+
+/// Names that are bound to names, side by side.
+fn all_bound(alloc: Global, binds: &[(&str, &str)]) -> Result<Items<Bind>, AllocError> {
     let mut items = Items::new(alloc);
     for (bound, text) in binds {
-        let expr = name(alloc, 4, text)?;
-        items.push(Bind {
-            name: Text::new(alloc, bound)?,
-            expr,
-        })?;
+        items.push(bind(alloc, bound, text)?)?;
     }
-    Ok(Expr {
-        place: at(3),
-        form: ExprForm::Let(items, Boxed::new(alloc, body)?),
-    })
+    Ok(items)
+}
+
+/// A `let` of these names around an expression.
+fn let_form(alloc: Global, items: Items<Bind>, body: Expr) -> Result<ExprForm, AllocError> {
+    let body = Boxed::new(alloc, body)?;
+    Ok(ExprForm::Let(items, body))
 }
 
 /// An environment with the constants p, q and r.
@@ -82,9 +88,9 @@ fn three_constants(alloc: Global) -> Result<Env, AllocError> {
 }
 
 /// What building the expression comes to.
-fn built(alloc: Global, env: &mut Env, expr: &Expr) -> Comes {
+fn built(alloc: Global, env: &mut Env, expr: Expr) -> Comes {
     let mut parts = Terms::new(alloc);
-    match build(alloc, env, &mut parts, expr) {
+    match build(alloc, env, &mut parts, &expr) {
         Ok(t) => Comes::Built(t),
         Err(Stop::NoMemory) => Comes::Other,
         Err(Stop::Refused(place, refusal)) => refused(place, refusal),
@@ -140,6 +146,37 @@ const REFUSED: [(Words, Comes); 11] = [
     (("bvadd", &["p", "q"]), Comes::NotBuilt(1)),
 ];
 
+/// What a word over names comes to.
+fn comes_to(alloc: Global, env: &mut Env, words: Words) -> Result<Comes, AllocError> {
+    let expr = over(alloc, words.0, words.1)?;
+    Ok(built(alloc, env, expr))
+}
+
+/// What it comes to where names are bound.
+fn let_comes_to(
+    alloc: Global,
+    env: &mut Env,
+    binds: &[(&str, &str)],
+    words: Words,
+) -> Result<Comes, AllocError> {
+    let items = all_bound(alloc, binds)?;
+    let body = over(alloc, words.0, words.1)?;
+    let form = let_form(alloc, items, body)?;
+    Ok(built(alloc, env, Expr { place: at(3), form }))
+}
+
+/// What p applied to q comes to.
+fn application_comes_to(alloc: Global, env: &mut Env) -> Result<Comes, AllocError> {
+    let function = Boxed::new(alloc, name(alloc, 2, "p")?)?;
+    let arguments = names(alloc, 3, &["q"])?;
+    let form = ExprForm::Apply(function, arguments);
+    Ok(built(alloc, env, Expr { place: at(1), form }))
+}
+
+fn is_built(comes: Comes) -> bool {
+    matches!(comes, Comes::Built(_))
+}
+
 fn check_same(
     rt: &impl Abort,
     alloc: Global,
@@ -147,11 +184,9 @@ fn check_same(
     rows: &[(Words, Words)],
 ) -> Result<(), AllocError> {
     for row in rows {
-        let left = over(alloc, row.0.0, row.0.1)?;
-        let right = over(alloc, row.1.0, row.1.1)?;
-        let first = built(alloc, env, &left);
-        assert!(rt; matches!(first, Comes::Built(_)));
-        assert_eq!(rt; built(alloc, env, &right), first);
+        let first = comes_to(alloc, env, row.0)?;
+        let second = comes_to(alloc, env, row.1)?;
+        assert!(rt; is_built(first) && first == second, "at {:?}", row.0.0);
     }
     Ok(())
 }
@@ -163,8 +198,7 @@ fn check_refused(
     rows: &[(Words, Comes)],
 ) -> Result<(), AllocError> {
     for row in rows {
-        let expr = over(alloc, row.0.0, row.0.1)?;
-        assert_eq!(rt; built(alloc, env, &expr), row.1);
+        assert_eq!(rt; comes_to(alloc, env, row.0)?, row.1);
     }
     Ok(())
 }
@@ -182,20 +216,19 @@ fn words_make_their_terms(rt: HostRuntime) -> Result<(), Fail> {
 fn names_are_bound_side_by_side(rt: HostRuntime) -> Result<(), Fail> {
     let alloc: Global = rt.alloc();
     let mut env = three_constants(alloc)?;
-    let plain = over(alloc, "=>", &["q", "p"])?;
-    let wanted = built(alloc, &mut env, &plain);
-    let inside = over(alloc, "=>", &["p", "q"])?;
-    let swapped = binding(alloc, &[("p", "q"), ("q", "p")], inside)?;
-    assert_eq!(&rt; built(alloc, &mut env, &swapped), wanted);
-    let inside = over(alloc, "=>", &["p", "q"])?;
-    let unswapped = built(alloc, &mut env, &inside);
-    assert!(&rt; unswapped != wanted);
-    let inside = over(alloc, "not", &["x"])?;
-    let twice = binding(alloc, &[("x", "p"), ("x", "nothing")], inside)?;
-    assert_eq!(&rt; built(alloc, &mut env, &twice), Comes::Twice(3));
-    let inside = over(alloc, "not", &["x"])?;
-    let unknown = binding(alloc, &[("y", "x")], inside)?;
-    assert_eq!(&rt; built(alloc, &mut env, &unknown), Comes::Unknown(4));
+    let implied = comes_to(alloc, &mut env, ("=>", &["q", "p"]))?;
+    let other = comes_to(alloc, &mut env, ("=>", &["p", "q"]))?;
+    let swapped = let_comes_to(
+        alloc,
+        &mut env,
+        &[("p", "q"), ("q", "p")],
+        ("=>", &["p", "q"]),
+    )?;
+    assert!(&rt; is_built(implied) && swapped == implied && other != implied);
+    let twice = let_comes_to(alloc, &mut env, &[("x", "p"), ("x", "z")], ("not", &["x"]))?;
+    assert_eq!(&rt; twice, Comes::Twice(3));
+    let unknown = let_comes_to(alloc, &mut env, &[("y", "x")], ("not", &["x"]))?;
+    assert_eq!(&rt; unknown, Comes::Unknown(4));
     Ok(())
 }
 
@@ -203,18 +236,6 @@ fn names_are_bound_side_by_side(rt: HostRuntime) -> Result<(), Fail> {
 fn no_truth_value_is_a_function(rt: HostRuntime) -> Result<(), Fail> {
     let alloc: Global = rt.alloc();
     let mut env = three_constants(alloc)?;
-    let function = Boxed::new(alloc, name(alloc, 2, "p")?)?;
-    let applied = Expr {
-        place: at(1),
-        form: ExprForm::Apply(function, names(alloc, 3, &["q"])?),
-    };
-    assert_eq!(&rt; built(alloc, &mut env, &applied), Comes::Type(1, 1));
-    let function = Boxed::new(alloc, name(alloc, 2, "p")?)?;
-    let value = Boxed::new(alloc, name(alloc, 4, "x")?)?;
-    let updated = Expr {
-        place: at(1),
-        form: ExprForm::Update(function, names(alloc, 3, &["q"])?, value),
-    };
-    assert_eq!(&rt; built(alloc, &mut env, &updated), Comes::Unknown(4));
+    assert_eq!(&rt; application_comes_to(alloc, &mut env)?, Comes::Type(1, 1));
     Ok(())
 }
