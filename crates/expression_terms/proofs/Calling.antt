@@ -1,6 +1,6 @@
 -- A word's constructor over the terms of its arguments, answered or refused.
-use Rattle.std.proofs.Common.{◌≡◌, ◌∙◌, ◌⊎◌, inl, inr, ℕ, zero, suc, ◌+◌, List, [], ◌∷◌, length, Some, None, refl, sym, ap, subst}
-use Rattle.std.specs.Prelude.{slice_get}
+use Rattle.std.proofs.Common.{◌≡◌, ◌∙◌, ◌⊎◌, inl, inr, ℕ, zero, suc, ◌+◌, List, [], ◌∷◌, length, Some, None, Result, Ok, Err, refl, sym, ap, subst}
+use Rattle.std.specs.Prelude.{slice_get, IfOk, IfErr, OnErr}
 use Rattle.std.specs.Option.{option_map}
 use Rattle.std.proofs.lemmas.Option.{same_Some}
 use Rattle.y_tree.specs.Sorts.{Sort}
@@ -30,6 +30,19 @@ use Rattle.expression_terms.proofs.Clauses.{arguments_listed, unknown_word, type
 use Rattle.expression_terms.proofs.Enough.{grows_past}
 use Rattle.expression_terms.proofs.Grown.{grows_among}
 use Rattle.expression_terms.proofs.Promised.{unbuilt_wrong}
+
+-- what is said of an answer, or of an error, and what follows
+pub ok_then : {A E : Type 0} {P Q : A → Type 0} (r : Result A E) → IfOk r P → ((x : A) → P x → Q x) → IfOk r Q
+ok_then (Ok x) h f = f x h
+ok_then (Err e) h f = tt
+
+pub err_then : {A E : Type 0} {P Q : E → Type 0} (r : Result A E) → IfErr r P → ((e : E) → P e → Q e) → IfErr r Q
+err_then (Ok x) h f = tt
+err_then (Err e) h f = f e h
+
+pub on_err_then : {A E : Type 0} {P Q : Type 0} (r : Result A E) → OnErr r P → (P → Q) → OnErr r Q
+on_err_then (Ok x) h f = tt
+on_err_then (Err e) h f = f h
 
 -- terms with types are live
 none_dead : (w : World) (ts : List Term) (ks : List Sort) → HaveSorts w ts ks → (i : ℕ) (t : Term) → slice_get ts i ≡ Some t → node_at w t ≡ None → ⊥

@@ -323,7 +323,7 @@ unfolding tree_of IsBuiltWithin
 stays_false ns w parts e at t form h s ks named within kept d is = subst (λ z. IsBuiltWithin w ks z t) (one_result (tree_of s e) (node falsity tree.none) d (ap (tree_of s) form) is) h
 
 -- a name's tree is the one that it stands for
-name_known : (at : Place) (v : List ℕ) (o : Option Tree) (d : Tree) → known at v o ≡ Ok d → o ≡ Some d
+pub name_known : (at : Place) (v : List ℕ) (o : Option Tree) (d : Tree) → known at v o ≡ Ok d → o ≡ Some d
 name_known at v None d e = absurd (cc e)
 name_known at v (Some x) d e = ap result_ok e
 

@@ -22,6 +22,7 @@ use Rattle.expression_terms.proofs.PlainLaws.{none_bound}
 use Rattle.expression_terms.proofs.Outcomes.{BuildsFirst, BindsFirst, paired_next}
 use Rattle.expression_terms.proofs.Keeping.{next_written, next_bound_written, parts_among, among_parts, parts_none, parts_append, parts_let, stays_name, stays_let, FirstStayWithin, first_stay_more, first_stay_all, BoundFirstStayWithin, bound_stay_more, bound_stay_all}
 
+-- what was live stays where terms were only added
 pub only_wider : (old new : World) → OnlyAdds old new → IsWider old new
 only_wider old new a = wider a.bound old new a.adds
 

@@ -24,3 +24,4 @@ pub mod Keeping
 pub mod Collected
 pub mod Truths
 pub mod Kept
+pub mod Signs

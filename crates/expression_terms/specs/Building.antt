@@ -1,8 +1,9 @@
 -- What building the term of an expression answers.
-use Rattle.std.specs.Prelude.{◌≡◌, ◌⊎◌, ℕ, List, ◌++◌, Option, Some, None, Result, Ok, Err}
+use Rattle.std.specs.Prelude.{◌≡◌, ◌⊎◌, ℕ, Bool, true, false, List, ◌++◌, Option, Some, None, Result, Ok, Err}
 use Rattle.name_stacks.specs.Names.{newest, or_else}
 use Rattle.y_tree.specs.Sorts.{Sort}
-use Rattle.y_tree.specs.Tree.{Tree}
+use Rattle.y_tree.specs.Tree.{negation, Tree, node}
+use Rattle.y_tree.specs.Tree as tree
 use Rattle.y_tree.specs.Misfits.{Wanted}
 use Rattle.stamped_slots.specs.Slots.{taken}
 use Rattle.term_shapes.specs.declared.handles.Term.{Term}
@@ -11,14 +12,14 @@ use Rattle.term_table.specs.Checking.{Wants}
 use Rattle.term_build.specs.declared.errors.BuildError.{BuildError}
 use Rattle.term_build.specs.declared.errors.BuildError.TheVariants as build_error
 use Rattle.yices_grammar.specs.declared.Place.{Place}
-use Rattle.yices_grammar.specs.Commands.{Expr}
+use Rattle.yices_grammar.specs.Commands.{Expr, LitExpr}
 use Rattle.yices_api.specs.State.{State, ContextsStay}
 use Rattle.expression_terms.specs.declared.refusal.Refusal.TheVariants as refusal
 use Rattle.expression_terms.specs.declared.refusal.Stop.{Stop}
 use Rattle.expression_terms.specs.declared.refusal.Stop.TheVariants as stop
-use Rattle.expression_terms.specs.Trees.{Scope, Cause, sort_text, wanted_text, tree_named, tree_of}
+use Rattle.expression_terms.specs.Trees.{Scope, Cause, sort_text, wanted_text, tree_named, tree_of, known}
 use Rattle.expression_terms.specs.Standing.{IsBuiltFor, IsBoolean}
-use Rattle.expression_terms.specs.Growth.{GrowsFor, written_trees}
+use Rattle.expression_terms.specs.Growth.{GrowsFor, written_trees, if_there}
 
 -- names with their terms, those that `let` binds, as pairs from the oldest to the newest, before those that are defined
 pub record Named : Type 0 where
@@ -87,3 +88,29 @@ TellsCause w at (build_error.WrongType place want found) why =
 TellsCause w at build_error.TableFull why = why ≡ stop.Refused at refusal.TableFull
 TellsCause w at build_error.NoMemory why = why ≡ stop.NoMemory
 TellsCause w at _ why = why ≡ stop.Refused at refusal.NotBuilt
+
+-- the tree of a name with a sign, where it is there
+abbrev pub signed : Bool → Result Tree Cause → Result Tree Cause
+signed positive (Err c) = Err c
+signed true (Ok t) = Ok t
+signed false (Ok t) = Ok (node negation (tree.more t tree.none))
+
+-- the tree of a literal, or that its name is unknown
+abbrev pub literal_tree : Scope → LitExpr → Result Tree Cause
+literal_tree s l = signed l.positive (known l.name_place l.name (tree_named s l.name))
+
+-- the term was built for the tree of the literal
+pub record BuildsLiteral (s : Scope) (l : LitExpr) (new : State) (t : Term) : Type 0 where
+  pub tree : Tree
+  pub is : literal_tree s l ≡ Ok tree
+  pub built : IsBuiltFor new.table tree t
+
+-- the literal's term is built, or its name is told as unknown
+abbrev pub BuildsLiteralOr : Named → State → LitExpr → Result Term Stop → State → Type 0
+BuildsLiteralOr ns old l (Ok t) new = (s : Scope) → AreNamed old.table s ns → BuildsLiteral s l new t
+BuildsLiteralOr ns old l (Err why) new = (s : Scope) → AreNamed old.table s ns → IsUnbuilt (cause_in (literal_tree s l)) new why
+
+-- building a literal adds few terms, and changes nothing else
+pub record AddsLiteral (ns : Named) (old : State) (l : LitExpr) (new : State) : Type 0 where
+  pub grows : (s : Scope) → AreNamed old.table s ns → GrowsFor (if_there (literal_tree s l)) old.table new.table
+  pub contexts : ContextsStay old new

@@ -4,6 +4,9 @@
 //! is quantified over the trees that the names stand for: whatever these are, the table grew by what constructors add for
 //! fresh trees among those that are written (`GrowsBy`), or by that and by what a refused constructor may have added
 //! (`GrowsPast`). What was built before stays, so the parts are put together from left to right.
+//!
+//! The terms of calls are told to the caller (`AddsParts`). Whoever keeps them, beside what the names' terms were built
+//! from, keeps all that the answer was built from (`StaysWithin`).
 ghost use Rattle.std.specs.Prelude.{◌≡◌, ◌++◌, ◌∷◌, [], IfErr, IfOk, OnErr, OnOk, map};
 ghost use Rattle.yices_grammar.specs.Commands.{apply, binds, expr_at, exprs, let_in, operation};
 ghost use Rattle.yices_grammar.specs.Commands as form;
@@ -28,8 +31,9 @@ use yices_commands::{Bind, Expr, ExprForm};
 use yices_grammar::Place;
 
 /// Builds the term of an expression, and answers its handle. It takes as many steps as the expression has parts beside
-/// those of the constructors, and one call deep for each bracket that is open in it. The terms of its operators are told
-/// to `parts`, in the order in which they are built.
+/// those of the constructors, and one call deep for each bracket that is open in it. The names are those that the table
+/// has. The terms of the calls in the expression are told to `parts`, behind those that are there, in the order in which
+/// they are built.
 ///
 /// # Errors
 ///

@@ -1,5 +1,5 @@
 //! The constructor that a word names, and why its call is refused.
-ghost use Rattle.std.specs.Prelude.{◌≡◌, true, IfErr, IfOk, IfSome, IfNone, None, OnErr, Some};
+ghost use Rattle.std.specs.Prelude.{◌≡◌, ℕ, List, true, IfErr, IfOk, IfSome, IfNone, None, OnErr, Some};
 ghost use Rattle.term_table.specs.World.{World, KeepsType};
 ghost use Rattle.term_table.specs.Checking.{Wants};
 ghost use Rattle.term_build.specs.Building.{AreKnown, IsEmptyCall};
@@ -139,6 +139,38 @@ fn known()
     sketches_are_small();
 }
 
+/// The term of a constructor over the terms of its arguments.
+///
+/// # Errors
+///
+/// What is wrong with the call, at the place of its expression; `TableFull`; `NoMemory`.
+pub(crate) fn construct(
+    alloc: Global,
+    env: &mut Env,
+    place: Place,
+    operator: Operator,
+    arguments: &[Term],
+) -> Result<Term, Stop>
+    ensures built { IfOk result (λ t. (s : Scope) (w : List ℕ) (es : Exprs) (start : World) → op_in operator_words w ≡ Some (operator_of operator) → AreBoolean s → BuildsAll s start env.old.table es arguments.now → BuildsOne s start env.new.table (expr_at place (operation w es)) t) }
+    ensures refused { IfErr result (λ why. (s : Scope) (w : List ℕ) (es : Exprs) (start : World) → op_in operator_words w ≡ Some (operator_of operator) → AreBoolean s → BuildsAll s start env.old.table es arguments.now → IsUnbuilt (cause_in (tree_of s (expr_at place (operation w es)))) env.new why) }
+    ensures past { OnErr result ((s : Scope) (w : List ℕ) (es : Exprs) (start : World) → op_in operator_words w ≡ Some (operator_of operator) → AreBoolean s → BuildsAll s start env.old.table es arguments.now → GrowsPast (written_trees s (expr_at place (operation w es))) start env.new.table) }
+    ensures contexts { ContextsStay env.old env.new }
+    ensures grown { OnlyAdds env.old.table env.new.table }
+{
+    known();
+    env.is_world();
+    if is_empty_call(operator, arguments) {
+        return Err(Stop::Refused(place, Refusal::BadArity(0)));
+    }
+    match env.build_term(operator, arguments) {
+        Ok(t) => {
+            env.is_world();
+            Ok(t)
+        }
+        Err(error) => Err(refusal_of(alloc, env.table(), place, error)),
+    }
+}
+
 /// The term of a word's constructor over the terms of its arguments.
 ///
 /// # Errors
@@ -160,16 +192,5 @@ pub(crate) fn operate(
     let Some(operator) = constructor_of(word.as_str()) else {
         return Err(Stop::Refused(place, Refusal::NotBuilt));
     };
-    known();
-    env.is_world();
-    if is_empty_call(operator, arguments) {
-        return Err(Stop::Refused(place, Refusal::BadArity(0)));
-    }
-    match env.build_term(operator, arguments) {
-        Ok(t) => {
-            env.is_world();
-            Ok(t)
-        }
-        Err(error) => Err(refusal_of(alloc, env.table(), place, error)),
-    }
+    construct(alloc, env, place, operator, arguments)
 }

@@ -1,8 +1,7 @@
-use Rattle.std.proofs.Common.{◌∙◌, sym, ap, subst}
+use Rattle.std.proofs.Common.{◌∙◌, sym, ap}
 use Rattle.expression_terms.specs.Trees.{op_in, operator_words}
-use Rattle.expression_terms.specs.Building.{TellsCause}
-use Rattle.expression_terms.proofs.Outcomes.{adds_none, adds_by}
-use Rattle.expression_terms.proofs.Calling.{not_begun, word_unbuilt, empty_unbuilt, call_built, refused_past, refused_unbuilt}
+use Rattle.expression_terms.proofs.Outcomes.{adds_none}
+use Rattle.expression_terms.proofs.Calling.{not_begun, word_unbuilt, ok_then, err_then, on_err_then}
 use Rattle.expression_terms.proofs.calls.operate.Goals as goal
 
 pub returns-in_default-clause-refused : goal.returns-in_default-clause-refused
@@ -12,41 +11,14 @@ returns-in_default-clause-refused c s es start truths all =
 pub returns-in_default-clause-past : goal.returns-in_default-clause-past
 returns-in_default-clause-past c s es start truths all = not_begun s c.args.place c.args.word.now es start c.args.env.now.table c.args.arguments.now all
 
-pub returns-then-is_empty_call-clause-refused : goal.returns-then-is_empty_call-clause-refused
-returns-then-is_empty_call-clause-refused c s es start truths all =
-    empty_unbuilt s c.args.place c.args.word.now es c.known.ensures truths start c.args.env.now.table c.is_world.ensures.table c.in-Some.operator
-    (ap (op_in operator_words) (sym c.as_str.ensures.bytes) ∙ c.in-Some.ensures.some) c.args.arguments.now all c.args.env.now (c.is_empty_call.ensures.yes c.if-is_empty_call.true)
-
-pub returns-then-is_empty_call-clause-past : goal.returns-then-is_empty_call-clause-past
-returns-then-is_empty_call-clause-past c s es start truths all = not_begun s c.args.place c.args.word.now es start c.args.env.now.table c.args.arguments.now all
-
-pub returns-in-Ok-clause-built : goal.returns-in-Ok-clause-built
-returns-in-Ok-clause-built c s es start truths all =
-    call_built s c.args.place c.args.word.now es c.known.ensures truths start c.args.env.now.table c.is_world.ensures.table c.in-Some.operator
-    (ap (op_in operator_words) (sym c.as_str.ensures.bytes) ∙ c.in-Some.ensures.some) c.args.arguments.now all (λ e. absurd (cc (sym (c.is_empty_call.ensures.no e) ∙ c.if-is_empty_call.false)))
-    c.build_term.new.self.table c.is_world-in-Ok.ensures.table c.in-Ok.t c.in-Ok.ensures.built c.in-Ok.ensures.grown c.in-Ok.ensures.below
-
-pub returns-in-Err-clause-refused : goal.returns-in-Err-clause-refused
-returns-in-Err-clause-refused c s es start truths all =
-    refused_unbuilt s c.args.place c.args.word.now es c.known.ensures truths start c.args.env.now.table c.is_world.ensures.table c.in-Some.operator
-    (ap (op_in operator_words) (sym c.as_str.ensures.bytes) ∙ c.in-Some.ensures.some) c.args.arguments.now all (λ e. absurd (cc (sym (c.is_empty_call.ensures.no e) ∙ c.if-is_empty_call.false)))
-    c.build_term.new.self c.in-Err.error c.refusal_of.result c.in-Err.ensures.refused c.in-Err.ensures.fit
-    (subst (λ w. TellsCause w c.args.place c.in-Err.error c.refusal_of.result) c.table.ensures c.refusal_of.ensures)
-
-pub returns-in-Err-clause-past : goal.returns-in-Err-clause-past
-returns-in-Err-clause-past c s es start truths all =
-    refused_past s c.args.place c.args.word.now es c.known.ensures truths start c.args.env.now.table c.is_world.ensures.table c.in-Some.operator
-    (ap (op_in operator_words) (sym c.as_str.ensures.bytes) ∙ c.in-Some.ensures.some) c.args.arguments.now all (λ e. absurd (cc (sym (c.is_empty_call.ensures.no e) ∙ c.if-is_empty_call.false)))
-    c.build_term.new.self.table c.in-Err.ensures.fit c.build_term.ensures.grown
-
 pub returns-in_default-clause-grown : goal.returns-in_default-clause-grown
 returns-in_default-clause-grown c = adds_none c.args.env.now.table
 
-pub returns-then-is_empty_call-clause-grown : goal.returns-then-is_empty_call-clause-grown
-returns-then-is_empty_call-clause-grown c = adds_none c.args.env.now.table
+pub returns-clause-built : goal.returns-clause-built
+returns-clause-built c = ok_then c.construct.result c.construct.ensures.built (λ x h s es start truths all. h s c.args.word.now es start (ap (op_in operator_words) (sym c.as_str.ensures.bytes) ∙ c.in-Some.ensures.some) truths all)
 
-pub returns-in-Ok-clause-grown : goal.returns-in-Ok-clause-grown
-returns-in-Ok-clause-grown c = adds_by _ c.args.env.now.table c.build_term.new.self.table c.build_term.ensures.grown
+pub returns-clause-refused : goal.returns-clause-refused
+returns-clause-refused c = err_then c.construct.result c.construct.ensures.refused (λ x h s es start truths all. h s c.args.word.now es start (ap (op_in operator_words) (sym c.as_str.ensures.bytes) ∙ c.in-Some.ensures.some) truths all)
 
-pub returns-in-Err-clause-grown : goal.returns-in-Err-clause-grown
-returns-in-Err-clause-grown c = adds_by _ c.args.env.now.table c.build_term.new.self.table c.build_term.ensures.grown
+pub returns-clause-past : goal.returns-clause-past
+returns-clause-past c = on_err_then c.construct.result c.construct.ensures.past (λ h s es start truths all. h s c.args.word.now es start (ap (op_in operator_words) (sym c.as_str.ensures.bytes) ∙ c.in-Some.ensures.some) truths all)
