@@ -17,7 +17,7 @@ use Rattle.yices_api.specs.State.{State, ContextsStay}
 use Rattle.expression_terms.specs.declared.refusal.Stop.{Stop}
 use Rattle.expression_terms.specs.Trees.{Scope, Cause, op_in, operator_words, tree_named, join, over, unless_misfit, tree_of}
 use Rattle.expression_terms.specs.Growth.{if_there, written_trees, AreSubtrees, GrowsFor}
-use Rattle.expression_terms.specs.Fresh.{GrowsPast}
+use Rattle.expression_terms.specs.Fresh.{IsThere, GrowsBy, GrowsPast}
 use Rattle.expression_terms.specs.Building.{Named, term_named, AreBoolean, AreNamed, cause_in, IsUnbuilt, IsMissing, signed, literal_tree, BuildsLiteralOr, AddsLiteral}
 use Rattle.expression_terms.specs.Parts.{BuildsOne, BuildsAll}
 use Rattle.expression_terms.specs.Outcomes.{Builds, BuildsEach}
@@ -53,6 +53,20 @@ module _ (d : Tree) where
       front a (t, inl e, is) = (t, inl e, is)
       front a (t, inr e, is) = absurd e
 
+-- the tree, where it is there
+abbrev tree_or : Tree → Result Tree Cause → Tree
+tree_or d (Ok t) = t
+tree_or d (Err e) = d
+
+-- what was there before is not fresh
+fresh_alone : (d e : Tree) (old new : World) → IsThere old e → GrowsBy (d ∷ e ∷ []) old new → GrowsBy (d ∷ []) old new
+fresh_alone d e old new there g = record { trees = g.trees; adds = g.adds; fresh = g.fresh; listed = λ a among. by a among (g.listed a among) }
+  where
+    by : (a : Tree) → IsAmong a g.trees → IsAmong a (d ∷ e ∷ []) → IsAmong a (d ∷ [])
+    by a among (inl is) = inl is
+    by a among (inr (inl is)) = absurd (g.fresh.unbuilt a among (subst (IsThere old) (sym is) there))
+    by a among (inr (inr nowhere)) = absurd nowhere
+
 -- a literal, whose name is an expression
 module _ (l : LitExpr) (ns : Named) (old : State) where
   abbrev atom : Expr
@@ -82,7 +96,7 @@ module _ (l : LitExpr) (ns : Named) (old : State) where
     pub literal_plain : l.positive ≡ true → BuildsLiteralOr ns old l (Ok t) old
     literal_plain sign = λ s named.
         let b = one s named in
-        record { tree = b.tree; is = literal_is s ∙ ap (λ p. signed p (tree_of s atom)) sign ∙ ap (signed true) b.is; built = b.built }
+        record { tree = b.tree; is = literal_is s ∙ ap (λ p. signed p (tree_of s atom)) sign ∙ ap (signed true) b.is; built = b.built; grows = grows_none (b.tree ∷ []) old.table }
 
     -- its negation is a call over one argument
     abbrev single : Exprs
@@ -139,7 +153,14 @@ module _ (l : LitExpr) (ns : Named) (old : State) where
       pub negated_or : (new : State) (r : Result Term Stop) → IfOk r (Answered new) → IfErr r (Refused new) → BuildsLiteralOr ns old l r new
       negated_or new (Ok u) h k = λ s named.
           let b = h s (codes "not") single old.table refl named.truths (arguments s named) in
-          record { tree = b.tree; is = literal_same s named ∙ b.is; built = b.built }
+          let is : b.tree ≡ opposite (meant s named) = ap (tree_or b.tree) (sym b.is ∙ negated_is s named) in
+          let grown : GrowsBy (opposite (meant s named) ∷ meant s named ∷ []) old.table new.table = subst (λ ds. GrowsBy ds old.table new.table) (both_written s named) b.grows in
+          record {
+            tree = b.tree;
+            is = literal_same s named ∙ b.is;
+            built = b.built;
+            grows = subst (λ d. GrowsBy (d ∷ []) old.table new.table) (sym is) (fresh_alone (opposite (meant s named)) (meant s named) old.table new.table (t, (one s named).built) grown);
+          }
       negated_or new (Err why) h k = λ s named.
           subst (λ (x : Result Tree Cause). IsUnbuilt (cause_in x) new why) (sym (literal_same s named)) (k s (codes "not") single old.table refl named.truths (arguments s named))
 

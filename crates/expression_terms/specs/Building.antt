@@ -1,5 +1,5 @@
 -- What building the term of an expression answers.
-use Rattle.std.specs.Prelude.{◌≡◌, ◌⊎◌, ℕ, Bool, true, false, List, ◌++◌, Option, Some, None, Result, Ok, Err}
+use Rattle.std.specs.Prelude.{◌≡◌, ◌⊎◌, ℕ, Bool, true, false, List, [], ◌∷◌, ◌++◌, Option, Some, None, Result, Ok, Err}
 use Rattle.name_stacks.specs.Names.{newest, or_else}
 use Rattle.y_tree.specs.Sorts.{Sort}
 use Rattle.y_tree.specs.Tree.{negation, Tree, node}
@@ -20,6 +20,7 @@ use Rattle.expression_terms.specs.declared.refusal.Stop.TheVariants as stop
 use Rattle.expression_terms.specs.Trees.{Scope, Cause, sort_text, wanted_text, tree_named, tree_of, known}
 use Rattle.expression_terms.specs.Standing.{IsBuiltFor, IsBoolean}
 use Rattle.expression_terms.specs.Growth.{GrowsFor, written_trees, if_there}
+use Rattle.expression_terms.specs.Fresh.{GrowsBy}
 
 -- names with their terms, those that `let` binds, as pairs from the oldest to the newest, before those that are defined
 pub record Named : Type 0 where
@@ -99,15 +100,16 @@ signed false (Ok t) = Ok (node negation (tree.more t tree.none))
 abbrev pub literal_tree : Scope → LitExpr → Result Tree Cause
 literal_tree s l = signed l.positive (known l.name_place l.name (tree_named s l.name))
 
--- the term was built for the tree of the literal
-pub record BuildsLiteral (s : Scope) (l : LitExpr) (new : State) (t : Term) : Type 0 where
+-- the term was built for the tree of the literal, and the table grew by what that takes
+pub record BuildsLiteral (s : Scope) (l : LitExpr) (old new : State) (t : Term) : Type 0 where
   pub tree : Tree
   pub is : literal_tree s l ≡ Ok tree
   pub built : IsBuiltFor new.table tree t
+  pub grows : GrowsBy (tree ∷ []) old.table new.table
 
 -- the literal's term is built, or its name is told as unknown
 abbrev pub BuildsLiteralOr : Named → State → LitExpr → Result Term Stop → State → Type 0
-BuildsLiteralOr ns old l (Ok t) new = (s : Scope) → AreNamed old.table s ns → BuildsLiteral s l new t
+BuildsLiteralOr ns old l (Ok t) new = (s : Scope) → AreNamed old.table s ns → BuildsLiteral s l old new t
 BuildsLiteralOr ns old l (Err why) new = (s : Scope) → AreNamed old.table s ns → IsUnbuilt (cause_in (literal_tree s l)) new why
 
 -- building a literal adds few terms, and changes nothing else
