@@ -11,7 +11,7 @@ use Rattle.yices_cli.proofs.Forgetting.{commands_stopped, script_stopped}
 
 -- wherever the program stops for a cause, want of memory could stand in its place
 no_memory_in : (m : Mode) (input : SourceSeen) (out : SinkSeen) (e : Exit) → StopsIn m input out e → StopsIn m input out exit.NoMemory
-no_memory_in mode.Language input out e h = commands_stopped input out e h
+no_memory_in (mode.Language turns) input out e h = commands_stopped turns input out e h
 no_memory_in mode.Calls input out e h = script_stopped input out e h
 
 no_memory : (words : List (List ℕ)) (input : SourceSeen) (out : SinkSeen) (e : Exit) → Stops words input out e → Stops words input out exit.NoMemory

@@ -4,7 +4,8 @@ use Rattle.yices_grammar.specs.declared.Place.{Place}
 use Rattle.yices_grammar.specs.Commands.{Command}
 use Rattle.yices_grammar.specs.Texts.{Reads, BeginsWith}
 use Rattle.yices_grammar.specs.Faults.{FaultKind}
-use Rattle.yices_session.specs.declared.refusal.Refusal.{Refusal}
+use Rattle.clause_search.specs.declared.Turns.{Turns}
+use Rattle.expression_terms.specs.declared.refusal.Refusal.{Refusal}
 use Rattle.yices_cli.specs.declared.exit.Exit.{Exit}
 use Rattle.yices_cli.specs.declared.exit.Exit.TheVariants as exit
 use Rattle.yices_cli.specs.declared.exit.LongKind.TheVariants as long
@@ -16,8 +17,8 @@ use Rattle.yices_cli.proofs.Pieces.{front_before}
 reads_begins : (text : List ℕ) (cs : List Command) → Reads text cs → BeginsWith text cs
 reads_begins text cs (ps, cut, are) = ([], ps, cut, are)
 
-read_stopped : (input : SourceSeen) (out : SinkSeen) → IsRead input out → IsStopped input out
-read_stopped input out h = record {
+read_stopped : (turns : Turns) (input : SourceSeen) (out : SinkSeen) → IsRead turns input out → IsStopped turns input out
+read_stopped turns input out h = record {
   finished = true;
   text = h.text;
   got = h.got;
@@ -28,14 +29,14 @@ read_stopped input out h = record {
   answered = h.answered;
 }
 
-left_stopped : (input : SourceSeen) (out : SinkSeen) → IsLeft input out → IsStopped input out
-left_stopped input out h = record { finished = h.finished; text = h.text; got = h.got; front = h.front; rest = h.command ∷ []; begins = h.begins; last = h.last; answered = h.answered }
+left_stopped : (turns : Turns) (input : SourceSeen) (out : SinkSeen) → IsLeft turns input out → IsStopped turns input out
+left_stopped turns input out h = record { finished = h.finished; text = h.text; got = h.got; front = h.front; rest = h.command ∷ []; begins = h.begins; last = h.last; answered = h.answered }
 
-refused_stopped : (input : SourceSeen) (out : SinkSeen) (at : Place) (why : Refusal) → IsRefused input out at why → IsStopped input out
-refused_stopped input out at why h = record { finished = h.finished; text = h.text; got = h.got; front = h.front; rest = h.command ∷ []; begins = h.begins; last = h.last; answered = h.answered }
+refused_stopped : (turns : Turns) (input : SourceSeen) (out : SinkSeen) (at : Place) (why : Refusal) → IsRefused turns input out at why → IsStopped turns input out
+refused_stopped turns input out at why h = record { finished = h.finished; text = h.text; got = h.got; front = h.front; rest = h.command ∷ []; begins = h.begins; last = h.last; answered = h.answered }
 
-faulty_stopped : (input : SourceSeen) (out : SinkSeen) (kind : FaultKind) (at : Place) → IsFaulty input out kind at → IsStopped input out
-faulty_stopped input out kind at h = record {
+faulty_stopped : (turns : Turns) (input : SourceSeen) (out : SinkSeen) (kind : FaultKind) (at : Place) → IsFaulty turns input out kind at → IsStopped turns input out
+faulty_stopped turns input out kind at h = record {
   finished = h.finished;
   text = h.text;
   got = h.got;
@@ -46,8 +47,8 @@ faulty_stopped input out kind at h = record {
   answered = h.answered;
 }
 
-waited_stopped : (input : SourceSeen) (out : SinkSeen) (text : List ℕ) → IsGot input false text → HasWaited text out → IsStopped input out
-waited_stopped input out text got h = record {
+waited_stopped : (turns : Turns) (input : SourceSeen) (out : SinkSeen) (text : List ℕ) → IsGot input false text → HasWaited turns text out → IsStopped turns input out
+waited_stopped turns input out text got h = record {
   finished = false;
   text = text;
   got = got;
@@ -59,19 +60,19 @@ waited_stopped input out text got h = record {
 }
 
 -- wherever the answering of commands stops for a cause, want of memory could stand in its place
-pub commands_stopped : (input : SourceSeen) (out : SinkSeen) (e : Exit) → StopsCommands input out e → IsStopped input out
-commands_stopped input out exit.Done (inl h) = read_stopped input out h
-commands_stopped input out exit.Done (inr h) = left_stopped input out h
-commands_stopped input out exit.NoMemory h = h
-commands_stopped input out (exit.Syntax e) h = faulty_stopped input out _ _ h
-commands_stopped input out exit.ReadFault h = waited_stopped input out h.text h.got h.waited
-commands_stopped input out (exit.Usage k) h = absurd h
-commands_stopped input out (exit.Refused at why) h = refused_stopped input out at why h
-commands_stopped input out exit.WriteFault h = absurd h
-commands_stopped input out (exit.TooLong long.Bytes) h =
-    waited_stopped input out h.text (record { front = front_before input.held h.text h.more; short = omega (arith, h.full) }) h.waited
-commands_stopped input out (exit.TooLong (long.Nesting at)) h = faulty_stopped input out _ _ h
-commands_stopped input out (exit.TooLong (long.Reply at)) h = absurd h
+pub commands_stopped : (turns : Turns) (input : SourceSeen) (out : SinkSeen) (e : Exit) → StopsCommands turns input out e → IsStopped turns input out
+commands_stopped turns input out exit.Done (inl h) = read_stopped turns input out h
+commands_stopped turns input out exit.Done (inr h) = left_stopped turns input out h
+commands_stopped turns input out exit.NoMemory h = h
+commands_stopped turns input out (exit.Syntax e) h = faulty_stopped turns input out _ _ h
+commands_stopped turns input out exit.ReadFault h = waited_stopped turns input out h.text h.got h.waited
+commands_stopped turns input out (exit.Usage k) h = absurd h
+commands_stopped turns input out (exit.Refused at why) h = refused_stopped turns input out at why h
+commands_stopped turns input out exit.WriteFault h = absurd h
+commands_stopped turns input out (exit.TooLong long.Bytes) h =
+    waited_stopped turns input out h.text (record { front = front_before input.held h.text h.more; short = omega (arith, h.full) }) h.waited
+commands_stopped turns input out (exit.TooLong (long.Nesting at)) h = faulty_stopped turns input out _ _ h
+commands_stopped turns input out (exit.TooLong (long.Reply at)) h = absurd h
 
 answered_part : (input : SourceSeen) (out : SinkSeen) (finished : Bool) (text : List ℕ) → IsGot input finished text → IsAnswered finished text out → IsScriptPart input out
 answered_part input out finished text got h = record {

@@ -33,3 +33,7 @@ some_part (Err e) a b x ok err = (err.0, err.2)
 pub joined-push : (rs : List (List ℕ)) (r : List ℕ) → joined (rs ++ r ∷ []) ≡ joined rs ++ r
 joined-push [] r = append-nil r
 joined-push (x ∷ rs) r = ap (λ y. x ++ y) (joined-push rs r) ∙ sym (append_assoc x (joined rs) r)
+
+-- three words with a space between them, and the end of the line behind the last
+pub three_ended : (a b c : List ℕ) → (a ++ 32 ∷ (b ++ 32 ∷ c)) ++ 10 ∷ [] ≡ a ++ 32 ∷ (b ++ 32 ∷ (c ++ 10 ∷ []))
+three_ended a b c = append_assoc a (32 ∷ (b ++ 32 ∷ c)) (10 ∷ []) ∙ ap (λ r. a ++ 32 ∷ r) (append_assoc b (32 ∷ c) (10 ∷ []))

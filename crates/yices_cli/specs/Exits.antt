@@ -3,8 +3,8 @@ use Rattle.std.specs.Prelude.{ℕ, List, [], ◌++◌, codes, decimal}
 use Rattle.yices_grammar.specs.declared.Place.{Place}
 use Rattle.yices_text.specs.declared.error.SyntaxKind.{SyntaxKind}
 use Rattle.yices_text.specs.declared.error.SyntaxKind.TheVariants as syntax
-use Rattle.yices_session.specs.declared.refusal.Refusal.{Refusal}
-use Rattle.yices_session.specs.declared.refusal.Refusal.TheVariants as refusal
+use Rattle.expression_terms.specs.declared.refusal.Refusal.{Refusal}
+use Rattle.expression_terms.specs.declared.refusal.Refusal.TheVariants as refusal
 use Rattle.yices_cli.specs.declared.exit.Exit.{Exit}
 use Rattle.yices_cli.specs.declared.exit.Exit.TheVariants as exit
 use Rattle.yices_cli.specs.declared.exit.LongKind.{LongKind}
@@ -32,9 +32,12 @@ kind_text syntax.EndOfInput = codes "EndOfInput"
 abbrev pub refusal_text : Refusal → List ℕ
 refusal_text (refusal.UnknownName w) = codes "1 UnknownName " ++ w
 refusal_text (refusal.NameInUse w) = codes "3 NameInUse " ++ w
+refusal_text (refusal.BoundTwice w) = codes "4 BoundTwice " ++ w
 refusal_text (refusal.BadArity n) = codes "6 BadArity " ++ decimal n
+refusal_text (refusal.WrongType place wanted found) = codes "8 WrongType " ++ (decimal place ++ (codes " " ++ (wanted ++ (codes " " ++ found))))
 refusal_text refusal.BottomLevel = codes "15 BottomLevel"
 refusal_text refusal.TooDeep = codes "16 TooDeep"
+refusal_text refusal.TableFull = codes "19 TableFull"
 refusal_text refusal.NotBuilt = codes "21 NotBuilt"
 
 -- a line of standard input's, with its end: the place, and what is said of it

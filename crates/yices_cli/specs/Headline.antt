@@ -3,7 +3,7 @@ use Rattle.std.specs.Prelude.{◌≡◌, ℕ, List, [], ◌⊎◌, take}
 use Rattle.y_io.specs.Outside.{Rose, Grows, GrowsByPart}
 use Rattle.yices_grammar.specs.declared.Place.{Place}
 use Rattle.yices_text.specs.declared.error.SyntaxError.{SyntaxError}
-use Rattle.yices_session.specs.declared.refusal.Refusal.{Refusal}
+use Rattle.expression_terms.specs.declared.refusal.Refusal.{Refusal}
 use Rattle.yices_cli.specs.declared.exit.Exit.{Exit}
 use Rattle.yices_cli.specs.declared.exit.Exit.TheVariants as exit
 use Rattle.yices_cli.specs.declared.exit.LongKind.{LongKind}
@@ -17,12 +17,12 @@ use Rattle.yices_cli.specs.Scripts.{StopsScript, IsScriptCutShort}
 
 -- why the program stops in a mode, and what it wrote on `out`
 abbrev pub StopsIn : Mode → SourceSeen → SinkSeen → Exit → Type 0
-StopsIn mode.Language input out e = StopsCommands input out e
+StopsIn (mode.Language turns) input out e = StopsCommands turns input out e
 StopsIn mode.Calls input out e = StopsScript input out e
 
 -- the replies before one were written, and of that one not all
 abbrev pub IsCutShortIn : Mode → SourceSeen → SinkSeen → Type 0
-IsCutShortIn mode.Language input out = IsCutShort input out
+IsCutShortIn (mode.Language turns) input out = IsCutShort turns input out
 IsCutShortIn mode.Calls input out = IsScriptCutShort input out
 
 -- the words are valid, and in the mode that they ask for the program stops so

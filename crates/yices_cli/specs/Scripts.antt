@@ -4,7 +4,7 @@ use Rattle.std.specs.List.{AllByRecursion}
 use Rattle.y_io.specs.Outside.{Rose, Grows, GrowsByPart}
 use Rattle.yices_text.specs.declared.error.SyntaxKind.{SyntaxKind}
 use Rattle.yices_text.specs.declared.error.SyntaxKind.TheVariants as syntax
-use Rattle.yices_session.specs.declared.refusal.Refusal.TheVariants as refusal
+use Rattle.expression_terms.specs.declared.refusal.Refusal.TheVariants as refusal
 use Rattle.call_script.specs.declared.lines.LineEnd.{LineEnd}
 use Rattle.call_script.specs.declared.lines.LineEnd.TheVariants as line_end
 use Rattle.yices_api.specs.declared.calls.Call.{Call}

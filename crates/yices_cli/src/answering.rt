@@ -6,10 +6,10 @@ ghost use Rattle.yices_grammar.specs.Commands.{exit};
 ghost use Rattle.yices_grammar.specs.Texts.{Reads, BeginsWith};
 ghost use Rattle.yices_commands.specs.Plain.{plain_action, plain_command};
 ghost use Rattle.yices_text.specs.View.{says, listed, HoldsNoMore};
-ghost use Rattle.yices_session.specs.Held.{state_of, IsStopped};
+ghost use Rattle.yices_session.specs.Answers.{Answers, Refuses};
+ghost use Rattle.yices_session.specs.Held.{Held, Stands};
 ghost use Rattle.yices_session.specs.Replies.{reply_text};
-ghost use Rattle.yices_session.specs.State.{State};
-ghost use Rattle.yices_session.specs.Steps.{Step};
+ghost use Rattle.yices_session.specs.State.{State, IsStart};
 ghost use Rattle.yices_cli.specs.declared.answering.Turn.TheVariants.{End, Left, On};
 ghost use Rattle.yices_cli.specs.declared.exit.Exit.TheVariants.{Done, NoMemory};
 ghost use Rattle.yices_cli.specs.declared.words.Mode.TheVariants.{Language};
@@ -21,7 +21,7 @@ use crate::reading::TextEnd;
 use crate::writing::write_text;
 use std::alloc::Global;
 use y_io::Sink;
-use yices_session::{Reply, Session, Stop};
+use yices_session::{Reply, Session, Stop, Turns};
 use yices_text::{Action, Command, ReadError, Reader};
 
 // What a turn of the run came to.
@@ -34,21 +34,22 @@ enum Turn {
     On,
 }
 
-/// Answers the commands of a text, from an empty session on, each before the next is read, and writes
-/// each reply whole before the next command. It takes O(n) steps for the n bytes of the text, besides
-/// those of the answers, and keeps no list of commands.
+/// Answers the commands of a text, from an empty session on, each before the next is read and each check
+/// within so many turns, and writes each reply whole before the next command. It takes O(n) steps for
+/// the n bytes of the text, besides those of the answers, and keeps no list of commands.
 pub fn answer_commands<K: Sink>(
     alloc: Global,
     text: &[u8],
     end: TextEnd,
+    turns: Turns,
     out: &mut K,
 ) -> Result<(), Exit>
-    ensures done { OnOk result (EndsSo Language end text.now (record { old = K.written out.old; new = K.written out.new; before = K.faults out.old; after = K.faults out.new }) Done) }
-    ensures stopped { IfErr result (EndsSo Language end text.now (record { old = K.written out.old; new = K.written out.new; before = K.faults out.old; after = K.faults out.new })) }
+    ensures done { OnOk result (EndsSo (Language turns) end text.now (record { old = K.written out.old; new = K.written out.new; before = K.faults out.old; after = K.faults out.new }) Done) }
+    ensures stopped { IfErr result (EndsSo (Language turns) end text.now (record { old = K.written out.old; new = K.written out.new; before = K.faults out.old; after = K.faults out.new })) }
 {
     let mut reader = Reader::new(alloc);
     feed(&mut reader, text, end)?;
-    answer_all(alloc, &mut reader, end, out)?;
+    answer_all(alloc, &mut reader, end, turns, out)?;
     Ok(())
 }
 
@@ -75,14 +76,15 @@ fn answer_all<K: Sink>(
     alloc: Global,
     reader: &mut Reader,
     end: TextEnd,
+    turns: Turns,
     out: &mut K,
 ) -> Result<(), Exit>
     requires fresh { reader.old.answered ≡ [] }
     requires finished { reader.old.finished ≡ is_finished end }
-    ensures done { OnOk result (EndsSo Language end reader.old.fed (record { old = K.written out.old; new = K.written out.new; before = K.faults out.old; after = K.faults out.new }) Done) }
-    ensures stopped { IfErr result (EndsSo Language end reader.old.fed (record { old = K.written out.old; new = K.written out.new; before = K.faults out.old; after = K.faults out.new })) }
+    ensures done { OnOk result (EndsSo (Language turns) end reader.old.fed (record { old = K.written out.old; new = K.written out.new; before = K.faults out.old; after = K.faults out.new }) Done) }
+    ensures stopped { IfErr result (EndsSo (Language turns) end reader.old.fed (record { old = K.written out.old; new = K.written out.new; before = K.faults out.old; after = K.faults out.new })) }
 {
-    let mut session = Session::new(alloc);
+    let mut session = start(alloc, turns)?;
     'commands: loop {
         match take_turn(reader, &mut session, out)? {
             Turn::On => {}
@@ -97,15 +99,27 @@ fn answer_all<K: Sink>(
     }
 }
 
+// An empty session, with that limit of turns for each check.
+fn start(alloc: Global, turns: Turns) -> Result<Session, Exit>
+    ensures turns { IfOk result (λ session. session.turns ≡ turns) }
+    ensures start { IfOk result (λ session. (s : State) × IsStart s × Stands session s) }
+    ensures cause { IfErr result (λ e. e ≡ NoMemory) }
+{
+    match Session::new(alloc, turns) {
+        Ok(session) => Ok(session),
+        Err(_) => Err(Exit::NoMemory),
+    }
+}
+
 // Answers the next command of the text, where there is one.
 fn take_turn<K: Sink>(reader: &mut Reader, session: &mut Session, out: &mut K) -> Result<Turn, Exit>
     ensures fed { reader.new.fed ≡ reader.old.fed }
     ensures finished { reader.new.finished ≡ reader.old.finished }
     ensures later { K.faults out.old ≤ K.faults out.new }
-    ensures on { IfOk result (λ t. t ≡ On → AnswersNext reader.old.fed (says reader.old.answered) (says reader.new.answered) (state_of session.old) (state_of session.new) (K.written out.old) (K.written out.new)) }
+    ensures on { IfOk result (λ t. t ≡ On → AnswersNext reader.old.fed (says reader.old.answered) (says reader.new.answered) session.old session.new (K.written out.old) (K.written out.new)) }
     ensures left { IfOk result (λ t. t ≡ Left → LeavesNext reader.old.fed (says reader.old.answered) (K.written out.old) (K.written out.new)) }
     ensures end { IfOk result (λ t. t ≡ End → IsReadOut reader.old.finished reader.old.fed (says reader.old.answered) (K.written out.old) (K.written out.new)) }
-    ensures failed { IfErr result (IsFailed reader.old.finished reader.old.fed (says reader.old.answered) (state_of session.old) (record { old = K.written out.old; new = K.written out.new; before = K.faults out.old; after = K.faults out.new })) }
+    ensures failed { IfErr result (IsFailed reader.old.finished reader.old.fed (says reader.old.answered) session.old (record { old = K.written out.old; new = K.written out.new; before = K.faults out.old; after = K.faults out.new })) }
 {
     let Some(command) = next(reader)? else {
         return Ok(Turn::End);
@@ -120,9 +134,9 @@ fn take_turn<K: Sink>(reader: &mut Reader, session: &mut Session, out: &mut K) -
 // Answers a command and writes its reply, and says that the run goes on; at `exit` it does neither.
 fn act<K: Sink>(session: &mut Session, command: Command, out: &mut K) -> Result<bool, Exit>
     ensures later { K.faults out.old ≤ K.faults out.new }
-    ensures on { IfOk result (λ on. on ≡ true → IsReplied (state_of session.old) (plain_command command) (K.written out.old) (K.written out.new) (state_of session.new)) }
+    ensures on { IfOk result (λ on. on ≡ true → IsReplied session.old (plain_command command) (K.written out.old) (K.written out.new) session.new) }
     ensures left { IfOk result (λ on. on ≡ false → IsLeaving (plain_command command) (K.written out.old) (K.written out.new)) }
-    ensures failed { IfErr result (IsUnreplied (state_of session.old) (plain_command command) (record { old = K.written out.old; new = K.written out.new; before = K.faults out.old; after = K.faults out.new })) }
+    ensures failed { IfErr result (IsUnreplied session.old (plain_command command) (record { old = K.written out.old; new = K.written out.new; before = K.faults out.old; after = K.faults out.new })) }
 {
     if is_exit(&command) {
         return Ok(false);
@@ -161,8 +175,8 @@ fn is_exit(command: &Command) -> bool
 
 // Answers a command, or says which exit it is without a reply.
 fn answer(session: &mut Session, command: Command) -> Result<Reply, Exit>
-    ensures step { IfOk result (λ r. Step (state_of session.old) (plain_action command.action) (reply_text r) (state_of session.new)) }
-    ensures cause { IfErr result (IsUnanswered (state_of session.old) (plain_command command)) }
+    ensures step { IfOk result (λ r. Answers (plain_command command) session.old (reply_text r) session.new) }
+    ensures cause { IfErr result (IsUnanswered session.old (plain_command command)) }
 {
     outcome(session.answer(&command))
 }
@@ -170,7 +184,7 @@ fn answer(session: &mut Session, command: Command) -> Result<Reply, Exit>
 // The reply to a command, or which exit the program ends with where it has none.
 fn outcome(answer: Result<Reply, Stop>) -> Result<Reply, Exit>
     ensures reply { IfOk result (λ r. answer ≡ Ok r) }
-    ensures stop { (s : State) (c : grammar.Command) → IfErr answer (IsStopped s c) → IfErr result (IsUnanswered s c) }
+    ensures stop { (old new : Held) (c : grammar.Command) → IfErr answer (λ why. Refuses c old why new) → IfErr result (IsUnanswered old c) }
 {
     match answer {
         Ok(reply) => Ok(reply),
@@ -180,7 +194,7 @@ fn outcome(answer: Result<Reply, Stop>) -> Result<Reply, Exit>
 
 // The exit where a command has no reply.
 fn exit_of(stop: Stop) -> Exit
-    ensures { (s : State) (c : grammar.Command) → IsStopped s c stop → IsUnanswered s c result }
+    ensures { (old new : Held) (c : grammar.Command) → Refuses c old stop new → IsUnanswered old c result }
 {
     match stop {
         Stop::Refused(place, refusal) => Exit::Refused(place, refusal),

@@ -124,6 +124,21 @@ fn refused_line(alloc: Global, place: Place, refusal: &Refusal) -> Result<String
             let name = name.as_str();
             format!(in alloc; "yices: <stdin>:{line}:{column}: refused 3 NameInUse {name}\n")
         }
+        Refusal::BoundTwice(name) => {
+            let name = name.as_str();
+            format!(in alloc; "yices: <stdin>:{line}:{column}: refused 4 BoundTwice {name}\n")
+        }
+        Refusal::WrongType {
+            place: argument,
+            wanted,
+            found,
+        } => {
+            let wanted = wanted.as_str();
+            let found = found.as_str();
+            format!(in alloc;
+                "yices: <stdin>:{line}:{column}: refused 8 WrongType {argument} {wanted} {found}\n"
+            )
+        }
         Refusal::BadArity(count) => format!(in alloc;
             "yices: <stdin>:{line}:{column}: refused 6 BadArity {count}\n"
         ),
@@ -132,6 +147,9 @@ fn refused_line(alloc: Global, place: Place, refusal: &Refusal) -> Result<String
         ),
         Refusal::TooDeep => format!(in alloc;
             "yices: <stdin>:{line}:{column}: refused 16 TooDeep\n"
+        ),
+        Refusal::TableFull => format!(in alloc;
+            "yices: <stdin>:{line}:{column}: refused 19 TableFull\n"
         ),
         Refusal::NotBuilt => format!(in alloc;
             "yices: <stdin>:{line}:{column}: refused 21 NotBuilt\n"

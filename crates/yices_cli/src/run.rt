@@ -17,8 +17,8 @@ use y_io::{Sink, Source};
 
 /// Runs the program: reads the standard input of `source`, answers its commands one after another, or
 /// the lines of a script of calls where the words ask for it, writes the replies to `out`, and, where it
-/// stops for a cause, one line to `errors`. `words` are those after the program's name: none, or
-/// `--calls` alone.
+/// stops for a cause, one line to `errors`. `words` are those after the program's name: none, `--turns` with
+/// a limit of turns for each check, or `--calls` alone.
 pub fn run<S: Source, K: Sink>(
     alloc: Global,
     words: &Vec<String>,
@@ -89,7 +89,7 @@ fn answer_text<S: Source, K: Sink>(
 {
     let (text, end) = read_text(alloc, source)?;
     match mode {
-        Mode::Language => answer_commands(alloc, text.as_slice(), end, out),
+        Mode::Language(turns) => answer_commands(alloc, text.as_slice(), end, turns, out),
         Mode::Calls => answer_script(alloc, text.as_slice(), end, out),
     }
 }

@@ -2,11 +2,13 @@
 ghost use Rattle.std.specs.Prelude.{◌≡◌, ◌<◌};
 
 mod calls;
+mod expressions;
 mod faults;
 mod scripts;
 
 use crate::run::run;
 use crate::tests::calls::{CALLS, CHECKS};
+use crate::tests::expressions::{ASSUMPTIONS, KEPT, LETS, OPERATORS, REFUSED, UNTURNED};
 use crate::tests::faults::FAULTS;
 use crate::tests::scripts::SCRIPTS;
 use std::alloc::{AllocError, Global};
@@ -108,6 +110,36 @@ fn faults_have_their_places(rt: HostRuntime) -> Result<(), Fail> {
 #[test]
 fn scripts_have_their_replies(rt: HostRuntime) -> Result<(), Fail> {
     expect_rows(&rt, &[], &SCRIPTS)
+}
+
+#[test]
+fn operators_have_their_values(rt: HostRuntime) -> Result<(), Fail> {
+    expect_rows(&rt, &[], &OPERATORS)
+}
+
+#[test]
+fn lets_bind_side_by_side(rt: HostRuntime) -> Result<(), Fail> {
+    expect_rows(&rt, &[], &LETS)
+}
+
+#[test]
+fn assumptions_have_their_cores(rt: HostRuntime) -> Result<(), Fail> {
+    expect_rows(&rt, &[], &ASSUMPTIONS)
+}
+
+#[test]
+fn cores_and_models_are_kept(rt: HostRuntime) -> Result<(), Fail> {
+    expect_rows(&rt, &[], &KEPT)
+}
+
+#[test]
+fn causes_have_their_places(rt: HostRuntime) -> Result<(), Fail> {
+    expect_rows(&rt, &[], &REFUSED)
+}
+
+#[test]
+fn turns_are_limited(rt: HostRuntime) -> Result<(), Fail> {
+    expect_rows(&rt, &["--turns=0"], &UNTURNED)
 }
 
 #[test]
@@ -267,7 +299,10 @@ fn open_brackets_are_limited(rt: HostRuntime) -> Result<(), Fail> {
 }
 
 /// The words, with the status and the line on errors, over no input.
-const WORDS: [(&'static [&'static str], u8, &'static str); 13] = [
+type Words = (&'static [&'static str], u8, &'static str);
+
+/// Words of modes, and words that are none.
+const WORDS: [Words; 13] = [
     (&[], 0, ""),
     (&["--calls"], 0, ""),
     (
@@ -291,13 +326,52 @@ const WORDS: [(&'static [&'static str], u8, &'static str); 13] = [
     (&[""], 19, "yices: usage error at word 1\n"),
 ];
 
-#[test]
-fn a_word_is_at_fault(rt: HostRuntime) -> Result<(), Fail> {
-    for (texts, status, line) in &WORDS {
+/// Limits of turns.
+const LIMITS: [Words; 17] = [
+    (&["--turns=7"], 0, ""),
+    (&["--turns=007"], 0, ""),
+    (&["--turns=18446744073709551615"], 0, ""),
+    (&["--turns", "7"], 0, ""),
+    (&["--turns"], 19, "yices: usage error at word 2\n"),
+    (&["--turns", ""], 19, "yices: usage error at word 2\n"),
+    (&["--turns", "x"], 19, "yices: usage error at word 2\n"),
+    (&["--turns", "+7"], 19, "yices: usage error at word 2\n"),
+    (
+        &["--turns", "18446744073709551616"],
+        19,
+        "yices: usage error at word 2\n",
+    ),
+    (&["--turns", "7", "y"], 19, "yices: usage error at word 3\n"),
+    (&["--turns=7", "y"], 19, "yices: usage error at word 2\n"),
+    (&["--turns="], 19, "yices: usage error at word 1\n"),
+    (&["--turns=", "7"], 19, "yices: usage error at word 1\n"),
+    (&["--turns=7x"], 19, "yices: usage error at word 1\n"),
+    (
+        &["--turns=18446744073709551616"],
+        19,
+        "yices: usage error at word 1\n",
+    ),
+    (&["--turns7"], 19, "yices: usage error at word 1\n"),
+    (&["--calls", "y"], 19, "yices: usage error at word 2\n"),
+];
+
+// Runs the program with the words of a table, over no input.
+fn expect_words<R: Abort + AllocGlobal>(rt: &R, rows: &[Words]) -> Result<(), Fail> {
+    for (texts, status, line) in rows {
         let words = words_of(rt.alloc(), texts)?;
-        expect_run(&rt, &words, "", 1000000, *status, "", line)?;
+        expect_run(rt, &words, "", 1000000, *status, "", line)?;
     }
     Ok(())
+}
+
+#[test]
+fn a_word_is_at_fault(rt: HostRuntime) -> Result<(), Fail> {
+    expect_words(&rt, &WORDS)
+}
+
+#[test]
+fn a_limit_is_at_fault(rt: HostRuntime) -> Result<(), Fail> {
+    expect_words(&rt, &LIMITS)
 }
 
 /// The words, a text, how much the output and errors take, and what they hold in the end.

@@ -1,26 +1,19 @@
 -- Which forms of types and expressions are built.
-use Rattle.std.proofs.Common.{◌≡◌, ◌∙◌, ◌<◌, ◌≤◌, ◌+◌, ℕ, Bool, true, false, List, map, drop, length, get_or, sym, ap}
+use Rattle.std.proofs.Common.{◌≡◌, ◌∙◌, ◌<◌, ◌≤◌, ◌+◌, ℕ, Bool, true, false, List, map, drop, length, get_or, refl, sym, ap}
 use Rattle.std.specs.Prelude.{◌&&◌}
-use Rattle.std.proofs.lemmas.List.{at_drop_all}
 use Rattle.yices_grammar.specs.Commands as grammar
 use Rattle.yices_grammar.specs.Commands.{exprs, binds}
-use Rattle.yices_grammar.specs.Words.{is_among}
 use Rattle.yices_commands.specs.declared.command.TypeExpr.{TypeExpr, out-TypeExpr}
 use Rattle.yices_commands.specs.declared.command.TypeForm.TheVariants as type_form
 use Rattle.yices_commands.specs.declared.command.Expr.{Expr, out-Expr}
 use Rattle.yices_commands.specs.declared.command.ExprForm.TheVariants as form
-use Rattle.yices_commands.specs.declared.command.Bind.{Bind}
+use Rattle.yices_commands.specs.declared.command.Bind.{Bind, out-Bind}
 use Rattle.yices_commands.specs.declared.command.Decl.{Decl}
-use Rattle.yices_commands.specs.Plain.{plain_type, plain, plain_bind, plain_decl}
-use Rattle.yices_commands.proofs.Plain.{form-Number, form-Binary, form-Hex, form-MkBv, form-Extract, form-Counted, form-Update, form-Let, form-Forall, form-Apply, type-Bool, type-Real, type-Named, type-Bitvector, type-Arrow}
-use Rattle.yices_session.specs.Built.{built_operators, is_built_type, is_built_expr, are_built}
-use Rattle.yices_session.specs.State.{Named, tree_of}
-use Rattle.yices_session.specs.Steps.{cause_in}
-use Rattle.yices_session.specs.Building.{IsUnbuilt}
-use Rattle.yices_session.specs.declared.refusal.Stop.TheVariants as stop
-use Rattle.yices_session.specs.declared.refusal.Refusal.TheVariants as refusal
-use Rattle.yices_session.proofs.Nodes.{left_at}
-use Rattle.yices_session.proofs.PlainLaws.{plain_at, plain_true, plain_false, plain_name, plain_op, type_of}
+use Rattle.yices_commands.specs.Plain.{plain_type, plain, plain_bind}
+use Rattle.yices_commands.proofs.Plain.{type-Bool, type-Real, type-Named, type-Bitvector, type-Arrow}
+use Rattle.expression_terms.proofs.PlainLaws.{plain_true, plain_false, plain_name, plain_op, plain_let, plain_apply, plain_update, plain_number, plain_binary, plain_hex, plain_mk_bv, plain_extract, plain_counted, plain_forall, left_at, none_left, bound_at, none_bound}
+use Rattle.yices_session.specs.Built.{is_built_type, is_built_word, is_built_expr, are_built, binds_built}
+use Rattle.yices_session.proofs.PlainLaws.{type_of}
 
 -- types
 pub bool_type : (t : TypeExpr) → (out-TypeExpr t).form ≡ type_form.Bool → true ≡ is_built_type (plain_type t)
@@ -39,7 +32,7 @@ pub arrow_type : (t : TypeExpr) (us : List TypeExpr) (u : TypeExpr) → (out-Typ
 arrow_type t us u is =
     sym (ap is_built_type (type_of t (type_form.Arrow us u) (grammar.arrow (grammar.types (map plain_type us)) (plain_type u)) is (type-Arrow us u)))
 
--- expressions that are built
+-- expressions without parts that are built
 pub true_built : (e : Expr) → (out-Expr e).form ≡ form.True → true ≡ is_built_expr (plain e)
 unfolding is_built_expr
 true_built e is = sym (ap is_built_expr (plain_true e is))
@@ -52,128 +45,102 @@ pub name_built : (e : Expr) (w : List ℕ) → (out-Expr e).form ≡ form.Name w
 unfolding is_built_expr
 name_built e w is = sym (ap is_built_expr (plain_name e w is))
 
-pub operation_built : (e : Expr) (w : List ℕ) (xs : List Expr) → (out-Expr e).form ≡ form.Op w xs → is_built_expr (plain e) ≡ (is_among built_operators w && are_built (exprs (map plain xs)))
-unfolding is_built_expr
-operation_built e w xs is = ap is_built_expr (plain_op e w xs is)
-
-pub operation_yes : (e : Expr) (w : List ℕ) (xs ys : List Expr) (a b : Bool) → (out-Expr e).form ≡ form.Op w xs → ys ≡ xs → a ≡ is_among built_operators w → a ≡ true
-    → b ≡ are_built (exprs (map plain ys)) → b ≡ is_built_expr (plain e)
-operation_yes e w xs ys a b is same known holds all =
-    all ∙ ap (λ zs. are_built (exprs (map plain zs))) same ∙ sym (operation_built e w xs is ∙ ap (λ x. x && are_built (exprs (map plain xs))) (sym known ∙ holds))
-
-pub operation_no : (e : Expr) (w : List ℕ) (xs : List Expr) (a : Bool) → (out-Expr e).form ≡ form.Op w xs → a ≡ is_among built_operators w → a ≡ false → a ≡ is_built_expr (plain e)
-operation_no e w xs a is known fails = fails ∙ sym (operation_built e w xs is ∙ ap (λ x. x && are_built (exprs (map plain xs))) (sym known ∙ fails))
-
 -- expressions that aren't
-number_is : (e : Expr) (w : List ℕ) → (out-Expr e).form ≡ form.Number w → plain e ≡ grammar.expr_at (out-Expr e).place (grammar.number w)
-number_is e w is = plain_at e (form.Number w) (grammar.number w) is (form-Number w)
-
 pub number_unbuilt : (e : Expr) (w : List ℕ) → (out-Expr e).form ≡ form.Number w → false ≡ is_built_expr (plain e)
 unfolding is_built_expr
-number_unbuilt e w is = sym (ap is_built_expr (number_is e w is))
-
-pub number_refused : (names : List Named) (e : Expr) (w : List ℕ) → (out-Expr e).form ≡ form.Number w → IsUnbuilt (tree_of names (plain e)) (stop.Refused (out-Expr e).place refusal.NotBuilt)
-unfolding tree_of
-number_refused names e w is = ap (λ x. cause_in (tree_of names x)) (number_is e w is)
-
-binary_is : (e : Expr) (w : List ℕ) → (out-Expr e).form ≡ form.Binary w → plain e ≡ grammar.expr_at (out-Expr e).place (grammar.binary w)
-binary_is e w is = plain_at e (form.Binary w) (grammar.binary w) is (form-Binary w)
+number_unbuilt e w is = sym (ap is_built_expr (plain_number e w is))
 
 pub binary_unbuilt : (e : Expr) (w : List ℕ) → (out-Expr e).form ≡ form.Binary w → false ≡ is_built_expr (plain e)
 unfolding is_built_expr
-binary_unbuilt e w is = sym (ap is_built_expr (binary_is e w is))
-
-pub binary_refused : (names : List Named) (e : Expr) (w : List ℕ) → (out-Expr e).form ≡ form.Binary w → IsUnbuilt (tree_of names (plain e)) (stop.Refused (out-Expr e).place refusal.NotBuilt)
-unfolding tree_of
-binary_refused names e w is = ap (λ x. cause_in (tree_of names x)) (binary_is e w is)
-
-hex_is : (e : Expr) (w : List ℕ) → (out-Expr e).form ≡ form.Hex w → plain e ≡ grammar.expr_at (out-Expr e).place (grammar.hex w)
-hex_is e w is = plain_at e (form.Hex w) (grammar.hex w) is (form-Hex w)
+binary_unbuilt e w is = sym (ap is_built_expr (plain_binary e w is))
 
 pub hex_unbuilt : (e : Expr) (w : List ℕ) → (out-Expr e).form ≡ form.Hex w → false ≡ is_built_expr (plain e)
 unfolding is_built_expr
-hex_unbuilt e w is = sym (ap is_built_expr (hex_is e w is))
-
-pub hex_refused : (names : List Named) (e : Expr) (w : List ℕ) → (out-Expr e).form ≡ form.Hex w → IsUnbuilt (tree_of names (plain e)) (stop.Refused (out-Expr e).place refusal.NotBuilt)
-unfolding tree_of
-hex_refused names e w is = ap (λ x. cause_in (tree_of names x)) (hex_is e w is)
-
-mk_bv_is : (e : Expr) (n k : List ℕ) → (out-Expr e).form ≡ form.MkBv n k → plain e ≡ grammar.expr_at (out-Expr e).place (grammar.mk_bv n k)
-mk_bv_is e n k is = plain_at e (form.MkBv n k) (grammar.mk_bv n k) is (form-MkBv n k)
+hex_unbuilt e w is = sym (ap is_built_expr (plain_hex e w is))
 
 pub mk_bv_unbuilt : (e : Expr) (n k : List ℕ) → (out-Expr e).form ≡ form.MkBv n k → false ≡ is_built_expr (plain e)
 unfolding is_built_expr
-mk_bv_unbuilt e n k is = sym (ap is_built_expr (mk_bv_is e n k is))
+mk_bv_unbuilt e n k is = sym (ap is_built_expr (plain_mk_bv e n k is))
 
-pub mk_bv_refused : (names : List Named) (e : Expr) (n k : List ℕ) → (out-Expr e).form ≡ form.MkBv n k → IsUnbuilt (tree_of names (plain e)) (stop.Refused (out-Expr e).place refusal.NotBuilt)
-unfolding tree_of
-mk_bv_refused names e n k is = ap (λ x. cause_in (tree_of names x)) (mk_bv_is e n k is)
-
-extract_is : (e : Expr) (i j : List ℕ) (b : Expr) → (out-Expr e).form ≡ form.Extract i j b → plain e ≡ grammar.expr_at (out-Expr e).place (grammar.extract i j (plain b))
-extract_is e i j b is = plain_at e (form.Extract i j b) (grammar.extract i j (plain b)) is (form-Extract i j b)
-
-pub extract_unbuilt : (e : Expr) (i j : List ℕ) (b : Expr) → (out-Expr e).form ≡ form.Extract i j b → false ≡ is_built_expr (plain e)
+pub extract_unbuilt : (e : Expr) (i j : List ℕ) (of : Expr) → (out-Expr e).form ≡ form.Extract i j of → false ≡ is_built_expr (plain e)
 unfolding is_built_expr
-extract_unbuilt e i j b is = sym (ap is_built_expr (extract_is e i j b is))
+extract_unbuilt e i j of is = sym (ap is_built_expr (plain_extract e i j of is))
 
-pub extract_refused : (names : List Named) (e : Expr) (i j : List ℕ) (b : Expr) → (out-Expr e).form ≡ form.Extract i j b → IsUnbuilt (tree_of names (plain e)) (stop.Refused (out-Expr e).place refusal.NotBuilt)
-unfolding tree_of
-extract_refused names e i j b is = ap (λ x. cause_in (tree_of names x)) (extract_is e i j b is)
-
-counted_is : (e : Expr) (w : List ℕ) (b : Expr) (k : List ℕ) → (out-Expr e).form ≡ form.Counted w b k → plain e ≡ grammar.expr_at (out-Expr e).place (grammar.counted w (plain b) k)
-counted_is e w b k is = plain_at e (form.Counted w b k) (grammar.counted w (plain b) k) is (form-Counted w b k)
-
-pub counted_unbuilt : (e : Expr) (w : List ℕ) (b : Expr) (k : List ℕ) → (out-Expr e).form ≡ form.Counted w b k → false ≡ is_built_expr (plain e)
+pub counted_unbuilt : (e : Expr) (w : List ℕ) (of : Expr) (k : List ℕ) → (out-Expr e).form ≡ form.Counted w of k → false ≡ is_built_expr (plain e)
 unfolding is_built_expr
-counted_unbuilt e w b k is = sym (ap is_built_expr (counted_is e w b k is))
+counted_unbuilt e w of k is = sym (ap is_built_expr (plain_counted e w of k is))
 
-pub counted_refused : (names : List Named) (e : Expr) (w : List ℕ) (b : Expr) (k : List ℕ) → (out-Expr e).form ≡ form.Counted w b k → IsUnbuilt (tree_of names (plain e)) (stop.Refused (out-Expr e).place refusal.NotBuilt)
-unfolding tree_of
-counted_refused names e w b k is = ap (λ x. cause_in (tree_of names x)) (counted_is e w b k is)
-
-update_is : (e : Expr) (f : Expr) (xs : List Expr) (b : Expr) → (out-Expr e).form ≡ form.Update f xs b → plain e ≡ grammar.expr_at (out-Expr e).place (grammar.update (plain f) (exprs (map plain xs)) (plain b))
-update_is e f xs b is = plain_at e (form.Update f xs b) (grammar.update (plain f) (exprs (map plain xs)) (plain b)) is (form-Update f xs b)
-
-pub update_unbuilt : (e : Expr) (f : Expr) (xs : List Expr) (b : Expr) → (out-Expr e).form ≡ form.Update f xs b → false ≡ is_built_expr (plain e)
+pub forall_unbuilt : (e : Expr) (ds : List Decl) (body : Expr) → (out-Expr e).form ≡ form.Forall ds body → false ≡ is_built_expr (plain e)
 unfolding is_built_expr
-update_unbuilt e f xs b is = sym (ap is_built_expr (update_is e f xs b is))
+forall_unbuilt e ds body is = sym (ap is_built_expr (plain_forall e ds body is))
 
-pub update_refused : (names : List Named) (e : Expr) (f : Expr) (xs : List Expr) (b : Expr) → (out-Expr e).form ≡ form.Update f xs b → IsUnbuilt (tree_of names (plain e)) (stop.Refused (out-Expr e).place refusal.NotBuilt)
-unfolding tree_of
-update_refused names e f xs b is = ap (λ x. cause_in (tree_of names x)) (update_is e f xs b is)
+-- two tests one after another: the second decides where the first holds, and else the first
+both_then : (a b x y : Bool) → a ≡ x → a ≡ true → b ≡ y → b ≡ (x && y)
+both_then a b x y first holds second = second ∙ sym (ap (λ z. z && y) (sym first ∙ holds))
 
-let_in_is : (e : Expr) (bs : List Bind) (b : Expr) → (out-Expr e).form ≡ form.Let bs b → plain e ≡ grammar.expr_at (out-Expr e).place (grammar.let_in (binds (map plain_bind bs)) (plain b))
-let_in_is e bs b is = plain_at e (form.Let bs b) (grammar.let_in (binds (map plain_bind bs)) (plain b)) is (form-Let bs b)
+both_else : (a x y : Bool) → a ≡ x → a ≡ false → a ≡ (x && y)
+both_else a x y first fails = fails ∙ sym (ap (λ z. z && y) (sym first ∙ fails))
 
-pub let_in_unbuilt : (e : Expr) (bs : List Bind) (b : Expr) → (out-Expr e).form ≡ form.Let bs b → false ≡ is_built_expr (plain e)
+three : (x y z : Bool) → (x && y) && z ≡ x && (y && z)
+three true y z = refl
+three false y z = refl
+
+-- the operator's word, and then its arguments
+operation_built : (e : Expr) (w : List ℕ) (xs ys : List Expr) → (out-Expr e).form ≡ form.Op w xs → ys ≡ xs → is_built_expr (plain e) ≡ (is_built_word w && are_built (exprs (map plain ys)))
 unfolding is_built_expr
-let_in_unbuilt e bs b is = sym (ap is_built_expr (let_in_is e bs b is))
+operation_built e w xs ys is same = ap is_built_expr (plain_op e w xs ys is same)
 
-pub let_in_refused : (names : List Named) (e : Expr) (bs : List Bind) (b : Expr) → (out-Expr e).form ≡ form.Let bs b → IsUnbuilt (tree_of names (plain e)) (stop.Refused (out-Expr e).place refusal.NotBuilt)
-unfolding tree_of
-let_in_refused names e bs b is = ap (λ x. cause_in (tree_of names x)) (let_in_is e bs b is)
+pub operation_then : (e : Expr) (w : List ℕ) (xs ys : List Expr) (a b : Bool) → (out-Expr e).form ≡ form.Op w xs → ys ≡ xs → a ≡ is_built_word w → a ≡ true
+    → b ≡ are_built (exprs (map plain ys)) → b ≡ is_built_expr (plain e)
+operation_then e w xs ys a b is same known holds all = both_then a b _ _ known holds all ∙ sym (operation_built e w xs ys is same)
 
-forall_in_is : (e : Expr) (ds : List Decl) (b : Expr) → (out-Expr e).form ≡ form.Forall ds b → plain e ≡ grammar.expr_at (out-Expr e).place (grammar.forall_in (map plain_decl ds) (plain b))
-forall_in_is e ds b is = plain_at e (form.Forall ds b) (grammar.forall_in (map plain_decl ds) (plain b)) is (form-Forall ds b)
+pub operation_else : (e : Expr) (w : List ℕ) (xs : List Expr) (a : Bool) → (out-Expr e).form ≡ form.Op w xs → a ≡ is_built_word w → a ≡ false → a ≡ is_built_expr (plain e)
+operation_else e w xs a is known fails = both_else a _ _ known fails ∙ sym (operation_built e w xs xs is refl)
 
-pub forall_in_unbuilt : (e : Expr) (ds : List Decl) (b : Expr) → (out-Expr e).form ≡ form.Forall ds b → false ≡ is_built_expr (plain e)
+-- what names are bound to, and then the expression in which they are
+let_built : (e : Expr) (xs ys : List Bind) (u v : Expr) → (out-Expr e).form ≡ form.Let xs u → ys ≡ xs → v ≡ u → is_built_expr (plain e) ≡ (binds_built (binds (map plain_bind ys)) && is_built_expr (plain v))
 unfolding is_built_expr
-forall_in_unbuilt e ds b is = sym (ap is_built_expr (forall_in_is e ds b is))
+let_built e xs ys u v is same body = ap is_built_expr (plain_let e xs ys u v is same body)
 
-pub forall_in_refused : (names : List Named) (e : Expr) (ds : List Decl) (b : Expr) → (out-Expr e).form ≡ form.Forall ds b → IsUnbuilt (tree_of names (plain e)) (stop.Refused (out-Expr e).place refusal.NotBuilt)
-unfolding tree_of
-forall_in_refused names e ds b is = ap (λ x. cause_in (tree_of names x)) (forall_in_is e ds b is)
+pub let_then : (e : Expr) (xs ys : List Bind) (u v : Expr) (a b : Bool) → (out-Expr e).form ≡ form.Let xs u → ys ≡ xs → v ≡ u → a ≡ binds_built (binds (map plain_bind ys)) → a ≡ true
+    → b ≡ is_built_expr (plain v) → b ≡ is_built_expr (plain e)
+let_then e xs ys u v a b is same body known holds inner = both_then a b _ _ known holds inner ∙ sym (let_built e xs ys u v is same body)
 
-apply_is : (e : Expr) (f : Expr) (xs : List Expr) → (out-Expr e).form ≡ form.Apply f xs → plain e ≡ grammar.expr_at (out-Expr e).place (grammar.apply (plain f) (exprs (map plain xs)))
-apply_is e f xs is = plain_at e (form.Apply f xs) (grammar.apply (plain f) (exprs (map plain xs))) is (form-Apply f xs)
+pub let_else : (e : Expr) (xs ys : List Bind) (u : Expr) (a : Bool) → (out-Expr e).form ≡ form.Let xs u → ys ≡ xs → a ≡ binds_built (binds (map plain_bind ys)) → a ≡ false → a ≡ is_built_expr (plain e)
+let_else e xs ys u a is same known fails = both_else a _ _ known fails ∙ sym (let_built e xs ys u u is same refl)
 
-pub apply_unbuilt : (e : Expr) (f : Expr) (xs : List Expr) → (out-Expr e).form ≡ form.Apply f xs → false ≡ is_built_expr (plain e)
+-- a function, and then its arguments
+apply_built : (e u f : Expr) (xs ys : List Expr) → (out-Expr e).form ≡ form.Apply u xs → f ≡ u → ys ≡ xs → is_built_expr (plain e) ≡ (is_built_expr (plain f) && are_built (exprs (map plain ys)))
 unfolding is_built_expr
-apply_unbuilt e f xs is = sym (ap is_built_expr (apply_is e f xs is))
+apply_built e u f xs ys is function same = ap is_built_expr (plain_apply e u f xs ys is function same)
 
-pub apply_refused : (names : List Named) (e : Expr) (f : Expr) (xs : List Expr) → (out-Expr e).form ≡ form.Apply f xs → IsUnbuilt (tree_of names (plain e)) (stop.Refused (out-Expr e).place refusal.NotBuilt)
-unfolding tree_of
-apply_refused names e f xs is = ap (λ x. cause_in (tree_of names x)) (apply_is e f xs is)
+pub apply_then : (e u f : Expr) (xs ys : List Expr) (a b : Bool) → (out-Expr e).form ≡ form.Apply u xs → f ≡ u → ys ≡ xs → a ≡ is_built_expr (plain f) → a ≡ true
+    → b ≡ are_built (exprs (map plain ys)) → b ≡ is_built_expr (plain e)
+apply_then e u f xs ys a b is function same known holds all = both_then a b _ _ known holds all ∙ sym (apply_built e u f xs ys is function same)
+
+pub apply_else : (e u f : Expr) (xs : List Expr) (a : Bool) → (out-Expr e).form ≡ form.Apply u xs → f ≡ u → a ≡ is_built_expr (plain f) → a ≡ false → a ≡ is_built_expr (plain e)
+apply_else e u f xs a is function known fails = both_else a _ _ known fails ∙ sym (apply_built e u f xs xs is function refl)
+
+-- a function, its arguments, and then its new value there
+update_built : (e u f : Expr) (xs ys : List Expr) (v n : Expr) → (out-Expr e).form ≡ form.Update u xs v → f ≡ u → ys ≡ xs → n ≡ v
+    → is_built_expr (plain e) ≡ ((is_built_expr (plain f) && are_built (exprs (map plain ys))) && is_built_expr (plain n))
+unfolding is_built_expr
+update_built e u f xs ys v n is function same value = ap is_built_expr (plain_update e u f xs ys v n is function same value) ∙ sym (three (is_built_expr (plain f)) (are_built (exprs (map plain ys))) (is_built_expr (plain n)))
+
+pub call_then : (f : Expr) (xs ys : List Expr) (a b d : Bool) → ys ≡ xs → a ≡ is_built_expr (plain f) → a ≡ true → b ≡ are_built (exprs (map plain ys)) → d ≡ b
+    → d ≡ (is_built_expr (plain f) && are_built (exprs (map plain xs)))
+call_then f xs ys a b d same known holds all is = is ∙ both_then a b _ _ known holds (all ∙ ap (λ zs. are_built (exprs (map plain zs))) same)
+
+pub call_else : (f : Expr) (xs : List Expr) (a d : Bool) → a ≡ is_built_expr (plain f) → a ≡ false → d ≡ a → d ≡ (is_built_expr (plain f) && are_built (exprs (map plain xs)))
+call_else f xs a d known fails is = is ∙ both_else a _ _ known fails
+
+pub update_then : (e u f : Expr) (xs : List Expr) (v n : Expr) (a b : Bool) → (out-Expr e).form ≡ form.Update u xs v → f ≡ u → n ≡ v → a ≡ (is_built_expr (plain f) && are_built (exprs (map plain xs))) → a ≡ true
+    → b ≡ is_built_expr (plain n) → b ≡ is_built_expr (plain e)
+update_then e u f xs v n a b is function value known holds inner = both_then a b _ _ known holds inner ∙ sym (update_built e u f xs xs v n is function refl value)
+
+pub update_else : (e u f : Expr) (xs : List Expr) (v : Expr) (a : Bool) → (out-Expr e).form ≡ form.Update u xs v → f ≡ u → a ≡ (is_built_expr (plain f) && are_built (exprs (map plain xs))) → a ≡ false
+    → a ≡ is_built_expr (plain e)
+update_else e u f xs v a is function known fails = both_else a _ _ known fails ∙ sym (update_built e u f xs xs v v is function refl refl)
 
 -- lists of expressions
 pub built_more : (xs : List Expr) (i : ℕ) (x : Expr) → i < length xs → x ≡ get_or xs i x → true ≡ is_built_expr (plain x)
@@ -189,4 +156,20 @@ built_stop xs i x h is fails known =
 
 pub built_all : (xs : List Expr) (i : ℕ) → length xs ≤ i → are_built (exprs (map plain xs)) ≡ are_built (exprs (map plain (drop i xs))) → true ≡ are_built (exprs (map plain xs))
 unfolding are_built
-built_all xs i h known = sym (known ∙ at_drop_all (λ r. are_built (exprs (map plain r))) xs i h)
+built_all xs i h known = sym (known ∙ ap are_built (none_left xs i h))
+
+-- lists of bindings
+pub bound_more : (xs : List Bind) (i : ℕ) (d : Bind) → i < length xs → true ≡ is_built_expr (plain (out-Bind (get_or xs i d)).expr)
+    → binds_built (binds (map plain_bind (drop i xs))) ≡ binds_built (binds (map plain_bind (drop (i + 1) xs)))
+unfolding binds_built
+bound_more xs i d h holds = ap binds_built (bound_at xs i d h) ∙ ap (λ b. b && binds_built (binds (map plain_bind (drop (i + 1) xs)))) (sym holds)
+
+pub bound_stop : (xs : List Bind) (i : ℕ) (d : Bind) → i < length xs → false ≡ is_built_expr (plain (out-Bind (get_or xs i d)).expr)
+    → binds_built (binds (map plain_bind xs)) ≡ binds_built (binds (map plain_bind (drop i xs))) → false ≡ binds_built (binds (map plain_bind xs))
+unfolding binds_built
+bound_stop xs i d h fails known =
+    sym (known ∙ ap binds_built (bound_at xs i d h) ∙ ap (λ b. b && binds_built (binds (map plain_bind (drop (i + 1) xs)))) (sym fails))
+
+pub bound_all : (xs : List Bind) (i : ℕ) → length xs ≤ i → binds_built (binds (map plain_bind xs)) ≡ binds_built (binds (map plain_bind (drop i xs))) → true ≡ binds_built (binds (map plain_bind xs))
+unfolding binds_built
+bound_all xs i h known = sym (known ∙ ap binds_built (none_bound xs i h))

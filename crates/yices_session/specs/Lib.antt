@@ -1,8 +1,10 @@
 pub mod Built
 pub mod State
-pub mod Steps
 pub mod Replies
-pub mod Bindings
+pub mod Steps
+pub mod Refusals
 pub mod Held
-pub mod Building
+pub mod Answers
+pub mod Parts
 pub mod View
+pub mod Roots

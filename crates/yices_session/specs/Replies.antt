@@ -6,14 +6,16 @@ use Rattle.y_tree.specs.Meaning.{Assignment, meaning}
 use Rattle.value_texts.specs.Texts.{value_text}
 use Rattle.yices_session.specs.declared.refusal.Reply.{Reply}
 use Rattle.yices_session.specs.declared.refusal.Reply.TheVariants as reply
-use Rattle.yices_session.specs.State.{Named}
+use Rattle.yices_session.specs.State.{Named, Literal, Kept, Core}
 
 -- what is printed of a reply
 abbrev pub reply_text : Reply → List ℕ
 reply_text reply.Nothing = []
 reply_text reply.Sat = codes "sat\n"
 reply_text reply.Unsat = codes "unsat\n"
+reply_text reply.Unknown = codes "unknown\n"
 reply_text reply.NoModel = codes "no model\n"
+reply_text reply.NoCore = codes "no core\n"
 reply_text (reply.Text text) = string_bytes text
 
 -- the line of a name and its value: `(= NAME VALUE)`
@@ -30,11 +32,26 @@ name_lines s [] = []
 name_lines s (n ∷ ns) = name_line s n ++ name_lines s ns
 
 -- the model that is kept, as it is printed
-abbrev pub model_text : Option Assignment → List Named → List ℕ
+abbrev pub model_text : Option Kept → List Named → List ℕ
 model_text None ns = codes "no model\n"
-model_text (Some s) ns = name_lines s ns
+model_text (Some m) ns = name_lines m.values ns
 
 -- the value of a tree under the model that is kept, as it is printed
-abbrev pub value_reply : Option Assignment → Tree → List ℕ
+abbrev pub value_reply : Option Kept → Tree → List ℕ
 value_reply None t = codes "no model\n"
-value_reply (Some s) t = value_text (meaning t s) ++ codes "\n"
+value_reply (Some m) t = value_text (meaning t m.values) ++ codes "\n"
+
+-- a literal as it was written
+abbrev pub literal_text : Literal → List ℕ
+literal_text l = if l.positive then l.name else (codes "(not " ++ l.name ++ codes ")")
+
+-- literals with single spaces between them
+abbrev pub literals_text : List Literal → List ℕ
+literals_text [] = []
+literals_text (l ∷ []) = literal_text l
+literals_text (l ∷ m ∷ ls) = literal_text l ++ codes " " ++ literals_text (m ∷ ls)
+
+-- the core that is kept, as it is printed
+abbrev pub core_text : Option Core → List ℕ
+core_text None = codes "no core\n"
+core_text (Some c) = codes "(" ++ literals_text c.written ++ codes ")\n"

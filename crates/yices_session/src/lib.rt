@@ -1,19 +1,18 @@
 //! The session of the language: what the commands declare and assert, and the answers to them.
 //!
-//! A [`Session`] is seen as names with the trees that they stand for, lists of formulas, one for each
-//! level, and the kept model. [`Session::answer`] replies to one command: the reply and the new state
-//! are a step of the session (`specs/Steps.antt`), or the refusal is the one that the command has
-//! there, and the state stays as it was; what isn't built is refused before all else. It keeps nodes of
-//! one problem in place of trees, and a list of literals with marks in place of the lists. That is right
-//! since a node stands for one tree for good, and later nodes change none: so what `decide` says of nodes
-//! it says of the trees of the formulas.
+//! A [`Session`] runs through one environment. A name stands for a handle of its table, formulas are handles, and the
+//! value of an expression is asked of the table's terms; no tree is kept. What is promised is over trees all the same: for
+//! whatever trees the session stands for (`Stands`), [`Session::answer`] replies to a command by a step of the session
+//! (`specs/Steps.antt`), or tells why it has no reply, and then whatever was declared and asserted stays. That is right since each term was
+//! built for the tree of its name or formula by constructors that keep the meaning, and a collection keeps what was built
+//! on the way to the terms of names, so that no tree gets two handles.
 #![tactic(auto)]
 
-mod build;
 mod built;
-mod names;
 mod refusal;
 mod session;
 
-pub use refusal::{Refusal, Reply, Stop};
+pub use expression_terms::{Refusal, Stop};
+pub use refusal::Reply;
 pub use session::Session;
+pub use term_checks::Turns;

@@ -139,12 +139,6 @@ pub const FAULTS: [Row; 145] = [
     ("(check \"ab", 17, "", "1:11: syntax EndOfInput"),
     ("(check)\"", 17, "sat\n", "1:9: syntax EndOfInput"),
     // In the language, and not built: a whole command is refused at its first byte.
-    (
-        "(check)(check-assuming)",
-        20,
-        "sat\n",
-        "1:8: refused 21 NotBuilt",
-    ),
     ("(define-type t)", 20, "", "1:1: refused 21 NotBuilt"),
     ("(include \"f\")", 20, "", "1:1: refused 21 NotBuilt"),
     ("(ef-solve)", 20, "", "1:1: refused 21 NotBuilt"),
@@ -164,15 +158,6 @@ pub const FAULTS: [Row; 145] = [
     ("(assert 2.50)", 20, "", "1:1: refused 21 NotBuilt"),
     ("(assert 0b1)", 20, "", "1:1: refused 21 NotBuilt"),
     ("(assert 0xA)", 20, "", "1:1: refused 21 NotBuilt"),
-    ("(assert (= p q))", 20, "", "1:1: refused 21 NotBuilt"),
-    (
-        "(assert (let ((x p)) x))",
-        20,
-        "",
-        "1:1: refused 21 NotBuilt",
-    ),
-    ("(assert (and p (f q)))", 20, "", "1:1: refused 21 NotBuilt"),
-    ("(eval (xor p))", 20, "", "1:1: refused 21 NotBuilt"),
     (
         "(check)\n (assert (and q (not) 1))",
         20,
@@ -185,6 +170,27 @@ pub const FAULTS: [Row; 145] = [
         "",
         "1:17: refused 21 NotBuilt",
     ),
+    // What is built is refused for a name in it.
+    (
+        "(check)(check-assuming p)",
+        20,
+        "sat\n",
+        "1:24: refused 1 UnknownName p",
+    ),
+    ("(assert (= p q))", 20, "", "1:12: refused 1 UnknownName p"),
+    (
+        "(assert (let ((x p)) x))",
+        20,
+        "",
+        "1:18: refused 1 UnknownName p",
+    ),
+    (
+        "(assert (and p (f q)))",
+        20,
+        "",
+        "1:14: refused 1 UnknownName p",
+    ),
+    ("(eval (xor p))", 20, "", "1:12: refused 1 UnknownName p"),
     // A fault of the text inside it comes first.
     ("(check-assuming p", 17, "", "1:18: syntax EndOfInput"),
     ("(show-unsat-assumptions", 17, "", "1:24: syntax EndOfInput"),

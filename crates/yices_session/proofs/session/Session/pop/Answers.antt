@@ -1,14 +1,19 @@
-use Rattle.std.proofs.Common.{◌∙◌, ◌∷◌, [], ap, None, reverse}
-use Rattle.std.proofs.lemmas.List.{reverse-append}
+use Rattle.std.proofs.Common.{[], ap, reverse}
 use Rattle.yices_session.specs.Held.{Held}
 use Rattle.yices_session.specs.View.{held_of}
-use Rattle.yices_session.proofs.Sessions.{popped_at}
+use Rattle.yices_session.proofs.Levels.{marks_more, popped_at, relisted}
+use Rattle.yices_session.proofs.Stopping.{moved_session, moves_seen}
 use Rattle.yices_session.proofs.session.Session.pop.Goals as goal
+
+pub invariant_of-self : goal.invariant_of-self
+invariant_of-self c =
+    let h : Held = held_of c.self.inside in
+    moved_session _ h [] _
+    (popped_at h _ c.in-Some.mark (reverse c.pop.new.self.items) (marks_more c.pop.new.self.items c.self.inside.marks.items c.in-Some.mark c.in-Some.ensures.items) (ap (λ ts. relisted h ts (reverse c.pop.new.self.items)) c.truncate.ensures.items))
+    c.self.invariant
 
 pub returns-in-Some-clause-step : goal.returns-in-Some-clause-step
 returns-in-Some-clause-step c =
     let h : Held = held_of c.self.inside in
-    let rest = c.pop.new.self.items in
-    popped_at h c.args.self.now _ c.in-Some.mark (reverse rest) c.self.invariant
-    (ap reverse c.in-Some.ensures.items ∙ reverse-append rest (c.in-Some.mark ∷ []))
-    (ap (λ ls. let k : Held = record h { formulas = ls; marks = reverse rest; model = None } in k) c.truncate.ensures.items) c.self.view_is
+    moves_seen _ h _ [] _ c.self.view_is
+    (popped_at h _ c.in-Some.mark (reverse c.pop.new.self.items) (marks_more c.pop.new.self.items c.self.inside.marks.items c.in-Some.mark c.in-Some.ensures.items) (ap (λ ts. relisted h ts (reverse c.pop.new.self.items)) c.truncate.ensures.items))

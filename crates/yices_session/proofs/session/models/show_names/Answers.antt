@@ -1,35 +1,28 @@
-use Rattle.std.proofs.Common.{◌<◌, ◌∙◌, ◌++◌, ap, sym, arith, length, string_bytes}
-use Rattle.std.specs.declared.string.String.{String}
-use Rattle.std.specs.declared.alloc.Global.{Global}
-use Rattle.y_tree.specs.Values.{truth}
-use Rattle.node_encoding.specs.Nodes.{booleans}
-use Rattle.yices_session.specs.declared.names.Binding.{Binding}
-use Rattle.yices_session.specs.Replies.{value_line}
-use Rattle.yices_session.proofs.Showing.{named_at, value_at, line_skipped, line_written}
+use Rattle.std.proofs.Common.{arith, string_bytes}
+use Rattle.model_eval.specs.Models.{assignment_of}
+use Rattle.yices_session.proofs.Showing.{item_there, name_truths, line_skipped, line_written, lines_end}
 use Rattle.yices_session.proofs.session.models.show_names.Goals as goal
-use Rattle.yices_session.proofs.session.models.show_names.Goals.{in-Some+then-not-binding+in_ok-write_line-in-Some, in-Some+else-not-binding, in-None}
+use Rattle.yices_session.proofs.session.models.show_names.Goals.{then-not-name+in_ok-value+in_ok-write_line, else-not-name}
 
-pub index-requires : goal.index-requires
-index-requires c =
-    let e : String Global × Binding = (c.in-Some.name.now, c.in-Some.binding.now) in
-    let there : e.1.node < length c.args.problem.now = named_at c.args.problem.now c.args.names.now.entries c.loop-i.i e c.requires (sym c.in-Some.ensures.entry) in
-    omega (arith, there, c.in_ok-values.ensures.each, c.in_ok-values.values.ok.0)
+pub value_of-requires-clause-truths : goal.value_of-requires-clause-truths
+value_of-requires-clause-truths c =
+    name_truths c.args.table.now c.args.declared.now c.loop-name.name-index c.name-item.result c.requires.truths (item_there c.args.declared.now c.loop-name.name-index c.name-item.result c.loop-name-test.true c.name-item.is)
 
-pub loop-i-preserved : goal.loop-i-preserved
-loop-i-preserved c =
-    let nodes = c.args.problem.now in
-    let model = booleans c.args.model.now in
-    let entries = c.args.names.now.entries in
-    let i = c.loop-i.i in
-    let text = string_bytes c.loop-i.text in
-    elim c.match-get_index.branch [
-      | in-Some+then-not-binding+in_ok-write_line-in-Some w ↦
-          let e : String Global × Binding = (w.in-Some.name.now, w.in-Some.binding.now) in
-          let there : e.1.node < length nodes = named_at nodes entries i e c.requires (sym w.in-Some.ensures.entry) in
-          rw w.text-is (line_written nodes model entries i text e (sym w.in-Some.ensures.entry) c.loop-i.invariant (truth w.index.result.now) (string_bytes w.write_line.new.text) w.if-not-binding.true
-          (ap truth w.index.ensures ∙ value_at nodes model c.in_ok-values.values.items e.1.node w.index.result.now c.in_ok-values.ensures.right (omega (arith, there, c.in_ok-values.ensures.each)))
-          (w.in_ok-write_line-in-Some.ensures.ok ∙ ap (λ n. text ++ value_line n (truth w.index.result.now)) w.as_str.ensures.value))
-      | in-Some+else-not-binding w ↦
-          rw w.text-is (line_skipped nodes model entries i text (w.in-Some.name.now, w.in-Some.binding.now) (sym w.in-Some.ensures.entry) c.loop-i.invariant w.if-not-binding.false)
-      | in-None w ↦ absurd (cc (w.in-None.ensures.found.1 (omega (arith, c.loop-i-test.true, c.len-i-end.ensures.len))))
+pub loop-name-preserved : goal.loop-name-preserved
+loop-name-preserved c =
+    let w = c.args.table.now in
+    let a = assignment_of w c.args.model.now in
+    let ds = c.args.declared.now in
+    let i = c.loop-name.name-index in
+    let text = string_bytes c.loop-name.text in
+    let d = c.name-item.result in
+    let here = item_there ds i d c.loop-name-test.true c.name-item.is in
+    elim c.if-not-name.branch [
+      | then-not-name+in_ok-value+in_ok-write_line v ↦
+          rw v.text-is (line_written w a ds i text d here c.loop-name.invariant v.in_ok-value.value (string_bytes v.write_line.new.text) v.if-not-name.true v.in_ok-value.ensures.text v.in_ok-write_line.ensures.ok)
+      | else-not-name v ↦ rw v.text-is (line_skipped w a ds i text d here c.loop-name.invariant v.if-not-name.false)
     ]
+
+pub returns-clause-lines : goal.returns-clause-lines
+returns-clause-lines c =
+    lines_end c.args.table.now (assignment_of c.args.table.now c.args.model.now) c.args.declared.now c.loop-name.name-index (string_bytes c.loop-name.text) (omega (arith, c.loop-name-test.false)) c.loop-name.invariant
