@@ -146,7 +146,7 @@ pub const OPERATORS: [Row; 22] = [
 ];
 
 /// What `let` binds, side by side and one inside another, what it hides, and what is wrong with it: a name that is bound twice comes first, then what is bound, then what stands inside.
-pub const LETS: [Row; 19] = [
+pub const LETS: [Row; 20] = [
     // Side by side.
     (
         "(define p::bool)(define q::bool)(assert (let ((p q)(q p)) (and p (not q))))(check)(show-model)",
@@ -273,6 +273,12 @@ pub const LETS: [Row; 19] = [
         "",
         "1:17: refused 3 NameInUse p",
     ),
+    (
+        "(define p::bool)(assert (let ((x p)(x p)) x))",
+        20,
+        "",
+        "1:25: refused 4 BoundTwice x",
+    ),
 ];
 
 /// Checks under assumptions, with their cores and models.
@@ -374,7 +380,7 @@ pub const ASSUMPTIONS: [Row; 15] = [
 ];
 
 /// Which cores and models are kept, and what drops them.
-pub const KEPT: [Row; 14] = [
+pub const KEPT: [Row; 15] = [
     // A check without assumptions keeps no core.
     (
         "(check)(show-unsat-assumptions)(assert false)(check)(show-unsat-assumptions)",
@@ -465,6 +471,12 @@ pub const KEPT: [Row; 14] = [
         "(define z::bool)(define k::bool true)(define a::bool)(define m::bool (and a z))(assert (and a (not z) k (not m)))(check)(show-model)",
         0,
         "sat\n(= z false)\n(= a true)\n",
+        "",
+    ),
+    (
+        "(define p11::bool)(define p12::bool)(define p21::bool)(define p22::bool)(define p31::bool)(define p32::bool)(assert (or p11 p12))(assert (or p21 p22))(assert (or p31 p32))(assert (or (not p11) (not p21)))(assert (or (not p11) (not p31)))(assert (or (not p21) (not p31)))(assert (or (not p12) (not p22)))(assert (or (not p12) (not p32)))(assert (or (not p22) (not p32)))(check)",
+        0,
+        "unsat\n",
         "",
     ),
 ];
@@ -618,7 +630,7 @@ pub const REFUSED: [Row; 25] = [
 ];
 
 /// Checks without a turn. Behind `unknown` neither a model nor a core is kept; the limit holds for each check by itself, and what is forced takes no turn.
-pub const UNTURNED: [Row; 5] = [
+pub const UNTURNED: [Row; 8] = [
     (
         "(define p11::bool)(define p12::bool)(define p21::bool)(define p22::bool)(define p31::bool)(define p32::bool)(assert (or p11 p12))(assert (or p21 p22))(assert (or p31 p32))(assert (or (not p11) (not p21)))(assert (or (not p11) (not p31)))(assert (or (not p21) (not p31)))(assert (or (not p12) (not p22)))(assert (or (not p12) (not p32)))(assert (or (not p22) (not p32)))(check)(show-model)(eval true)(show-unsat-assumptions)",
         0,
@@ -650,4 +662,17 @@ pub const UNTURNED: [Row; 5] = [
         "sat\n(= p false)\n(= q true)\n",
         "",
     ),
+    (
+        "(define p11::bool)(define p12::bool)(define p21::bool)(define p22::bool)(define p31::bool)(define p32::bool)(assert (or p11 p12))(assert (or p21 p22))(assert (or p31 p32))(assert (or (not p11) (not p21)))(assert (or (not p11) (not p31)))(assert (or (not p21) (not p31)))(assert (or (not p12) (not p22)))(assert (or (not p12) (not p32)))(assert (or (not p22) (not p32)))(check)",
+        0,
+        "unknown\n",
+        "",
+    ),
+    (
+        "(define p::bool)(assert p)(check)(show-model)",
+        0,
+        "sat\n(= p true)\n",
+        "",
+    ),
+    ("(check)", 0, "sat\n", ""),
 ];
